@@ -1,0 +1,39 @@
+-- Kinds of float values, of either format.
+use Prim.Native.Nat.{ℕ}
+use mathlib.Core.Bool.{Bool, true, false, not}
+use lib.Dec.{eqb}
+use lib.IntN.{pos}
+use lib.Ieee.{Float, nan, inf, fin, Format, round}
+
+-- a value with its sign bit clear, and no NaN: what costs and lengths are
+abbrev pub clear : Float → Bool
+clear nan = false
+clear (inf s) = not s
+clear (fin s m e) = not s
+
+abbrev pub sign : Float → Bool
+sign nan = false
+sign (inf s) = s
+sign (fin s m e) = s
+
+-- a zero of either sign
+abbrev pub isZero : Float → Bool
+isZero nan = false
+isZero (inf s) = false
+isZero (fin s m e) = eqb m 0
+
+abbrev pub isMinusInfinity : Float → Bool
+isMinusInfinity nan = false
+isMinusInfinity (inf s) = s
+isMinusInfinity (fin s m e) = false
+
+-- +0.0 and -0.0
+abbrev pub pzero : Float
+pzero = fin false 0 (pos 0)
+
+abbrev pub nzero : Float
+nzero = fin true 0 (pos 0)
+
+-- the whole number n with the sign s, rounded to the format
+abbrev pub whole : Format → Bool → ℕ → Float
+whole f s n = round f s n 1

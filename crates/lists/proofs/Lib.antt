@@ -1,0 +1,2 @@
+-- Laws of the loops of `specs/`.
+pub mod Loops

@@ -1,0 +1,105 @@
+-- A turn of each loop, and its end; what `every` and `any` tell of each number. Assumes nothing.
+use mathlib.Core.Path.{_≡_, refl, sym, subst, _∙_}
+use mathlib.Core.Bool.{Bool, true, false, not, _&&_, _||_}
+use mathlib.Core.Logic.{_⊎_, inl, inr, ⊎-elim}
+use Prim.Native.Nat.{ℕ, zero, suc, _+_, _<_, _≤_}
+use native.Mathlib.Nat.{not-suc-le-zero, le-of-suc-le-suc, eq-or-lt-of-le}
+use native.Mathlib.Omega.{arith}
+use native.Mathlib.Numerals.{add-one}
+use Rattle.lists.specs.Loops.{upTo, every, any}
+
+-- ---- tests
+
+pub two : (b : Bool) → (b ≡ true) ⊎ (b ≡ false)
+two true = inl refl
+two false = inr refl
+
+pub clash : {b : Bool} {A : Type 0} → b ≡ true → b ≡ false → A
+clash p q = absurd (let z : _≡_ {A = ℕ} 0 1 = cc in omega arith)
+
+pub and-both : (a b : Bool) → a && b ≡ true → (a ≡ true) × (b ≡ true)
+and-both true b e = (refl, e)
+and-both false b e = clash e refl
+
+pub both-and : {a b : Bool} → a ≡ true → b ≡ true → a && b ≡ true
+both-and p q = rw (p, q)
+
+or-either : (a b : Bool) → a || b ≡ true → (a ≡ true) ⊎ (b ≡ true)
+or-either true b e = inl refl
+or-either false b e = inr e
+
+or-right : (a : Bool) → a || true ≡ true
+or-right true = refl
+or-right false = refl
+
+-- ---- upTo
+
+pub upTo-none : {X : Type 0} (step : ℕ → X → X) (x : X) → x ≡ upTo 0 step x
+unfolding upTo
+upTo-none step x = refl
+
+-- a turn at k makes y of x, which k turns made
+pub upTo-turn : {X : Type 0} (k : ℕ) (step : ℕ → X → X) (x₀ : X) {x y : X} → y ≡ step k x → x ≡ upTo k step x₀ → y ≡ upTo (k + 1) step x₀
+unfolding upTo
+upTo-turn k step x₀ e h = rw (add-one, ← h) e
+
+-- the last turn is done at n
+pub upTo-done : {X : Type 0} (k n : ℕ) (step : ℕ → X → X) (x₀ : X) {x : X} → x ≡ upTo k step x₀ → k ≡ n → x ≡ upTo n step x₀
+upTo-done k n step x₀ h e = rw (← e) h
+
+-- ---- every
+
+pub every-none : (test : ℕ → Bool) → every 0 test ≡ true
+unfolding every
+every-none test = refl
+
+pub every-turn : (k : ℕ) (test : ℕ → Bool) → every k test ≡ true → test k ≡ true → every (k + 1) test ≡ true
+unfolding every
+every-turn k test h e = rw (add-one, h, e)
+
+pub every-done : (k n : ℕ) (test : ℕ → Bool) → every k test ≡ true → k ≡ n → true ≡ every n test
+every-done k n test h e = rw (← e, h)
+
+pub every-at : (n : ℕ) (test : ℕ → Bool) → every n test ≡ true → (k : ℕ) → k < n → test k ≡ true
+unfolding every
+every-at zero test h k l = absurd (not-suc-le-zero l)
+every-at (suc n) test h k l =
+    let p = and-both (every n test) (test n) h in
+    ⊎-elim (λ (e : k ≡ n). subst (λ j. test j ≡ true) (sym e) (p .1)) (λ (m : k < n). every-at n test (p .0) k m) (eq-or-lt-of-le (le-of-suc-le-suc l))
+
+pub every-all : (n : ℕ) (test : ℕ → Bool) → ((k : ℕ) → k < n → test k ≡ true) → every n test ≡ true
+unfolding every
+every-all zero test h = refl
+every-all (suc n) test h = both-and (every-all n test (λ k l. h k (omega arith))) (h n (omega arith))
+
+-- a number below n that fails
+pub every-stop : (k n : ℕ) (test : ℕ → Bool) → k < n → test k ≡ false → false ≡ every n test
+every-stop k n test l e = ⊎-elim (λ t. clash (every-at n test t k l) e) (λ f. sym f) (two (every n test))
+
+-- ---- any
+
+pub any-none : (test : ℕ → Bool) → any 0 test ≡ false
+unfolding any
+any-none test = refl
+
+pub any-turn : (k : ℕ) (test : ℕ → Bool) → any k test ≡ false → test k ≡ false → any (k + 1) test ≡ false
+unfolding any
+any-turn k test h e = rw (add-one, h, e)
+
+pub any-done : (k n : ℕ) (test : ℕ → Bool) → any k test ≡ false → k ≡ n → false ≡ any n test
+any-done k n test h e = rw (← e, h)
+
+-- a number below n that passes
+pub any-stop : (k n : ℕ) (test : ℕ → Bool) → k < n → test k ≡ true → true ≡ any n test
+unfolding any
+any-stop k zero test l e = absurd (not-suc-le-zero l)
+any-stop k (suc n) test l e =
+    ⊎-elim (λ (i : k ≡ n). rw (subst (λ j. test j ≡ true) i e) (sym (or-right (any n test))))
+    (λ (m : k < n). rw (← any-stop k n test m e))
+    (eq-or-lt-of-le (le-of-suc-le-suc l))
+
+pub any-some : (n : ℕ) (test : ℕ → Bool) → any n test ≡ true → (k : ℕ) × (k < n) × (test k ≡ true)
+unfolding any
+any-some zero test h = clash h refl
+any-some (suc n) test h =
+    ⊎-elim (λ p. let r = any-some n test p in (r .0, omega (arith, r .1), r .2)) (λ p. (n, omega arith, p)) (or-either (any n test) (test n) h)

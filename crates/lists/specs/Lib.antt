@@ -1,0 +1,2 @@
+-- What loops over a range of numbers leave.
+pub mod Loops
