@@ -1,0 +1,8 @@
+-- What the contracts of `routing` cite: the network and its checks, its edges and walks, the search, routes, and consistent triples.
+pub mod Network
+pub mod Walks
+pub mod Search
+pub mod Sound
+pub mod Route
+pub mod Triple
+pub mod Promise

@@ -1,0 +1,6 @@
+// Routing: the network and its checks, the cheapest route between two sides, and consistent triples of elements.
+mod link;
+pub mod network;
+pub mod route;
+mod search;
+pub mod triple;

@@ -1,0 +1,220 @@
+// The search for a route, over tables of four states per element.
+use crate::link::Link;
+use crate::link::Relation;
+use crate::link::link_ahead;
+use crate::link::link_behind;
+use crate::link::relation_at;
+use binary64::infinity;
+ghost use mathlib.Core.Path.{_≡_};
+ghost use Prim.Native.Nat.{_*_, _<_, _≤_};
+ghost use lib.ListN.{length};
+ghost use Rattle.routing.specs.Network.{graphOf, relationsOf, count};
+ghost use Rattle.routing.specs.Sound.{Even, Narrow, Sound, Sides, Lands, Room};
+ghost use Rattle.routing.specs.Walks.{opposite};
+ghost use Rattle.routing.specs.Search.{Within, costOf, better, pickOf, tables, lower, follow, followBoth, relaxExternal, settled, searchOf, endedAt, left, run};
+
+pub enum Pick {
+    At(usize),
+    Nothing,
+}
+
+// What a pick costs; none costs infinity.
+fn cost_of(costs: &[f64], best: Pick) -> f64
+    requires { ⌜ Within (length (now costs)) best ⌝ }
+    ensures { λ r. ⌜ r ≡ costOf (now (costs .entry)) best ⌝ }
+{
+    match best {
+        Pick::At(j) => costs[j],
+        Pick::Nothing => infinity(),
+    }
+}
+
+// The better of the best so far and the state i.
+fn better_of(costs: &[f64], marks: &[bool], best: Pick, i: usize) -> Pick
+    requires { ⌜ (i < length (now costs)) × (i < length (now marks)) ⌝ }
+    requires { ⌜ Within i best ⌝ }
+    ensures { λ r. ⌜ r ≡ better (now (costs .entry)) (now (marks .entry)) best i ⌝ }
+{
+    if marks[i] {
+        return best;
+    }
+    if costs[i] < cost_of(costs, best) {
+        Pick::At(i)
+    } else {
+        best
+    }
+}
+
+// The unsettled state of least cost among the first `states`, the lowest number among equals.
+fn next_state(costs: &[f64], marks: &[bool], states: usize) -> Pick
+    requires { ⌜ (states ≤ length (now costs)) × (states ≤ length (now marks)) ⌝ }
+    ensures { λ r. ⌜ r ≡ pickOf (now (costs .entry)) (now (marks .entry)) states ⌝ }
+{
+    let mut best = Pick::Nothing;
+    for i in 0..states {
+        best = better_of(costs, marks, best, i);
+    }
+    best
+}
+
+// A state is reached from another at a cost, which counts only where it is strictly lower.
+fn lower_state(costs: &mut [f64], preds: &mut [u32], from: usize, to: usize, cost: f64)
+    requires { ⌜ (to < length (now costs)) × (to < length (now preds)) ⌝ }
+    requires { ⌜ from < 4096 ⌝ }
+    ensures { λ _. ⌜ tables (now (costs .exit)) (now (preds .exit)) ≡ lower from to cost (tables (now (costs .entry)) (now (preds .entry))) ⌝ }
+{
+    if cost < costs[to] {
+        costs[to] = cost;
+        preds[to] = from as u32;
+    }
+}
+
+// A link is followed from node v, which costs d, where it is passable and starts there.
+fn follow_link(costs: &mut [f64], preds: &mut [u32], v: usize, d: f64, l: Link)
+    requires { ⌜ v < 2048 ⌝ }
+    requires { ⌜ Lands (length (now costs)) l × Lands (length (now preds)) l ⌝ }
+    ensures { λ _. ⌜ tables (now (costs .exit)) (now (preds .exit)) ≡ follow v d l (tables (now (costs .entry)) (now (preds .entry))) ⌝ }
+{
+    if l.passable {
+        if l.from == v {
+            lower_state(costs, preds, 2 * v, 2 * l.to + 1, d + 0.0);
+        }
+    }
+}
+
+// Both links of a relation are followed.
+fn follow_relation(
+    costs: &mut [f64],
+    preds: &mut [u32],
+    elements: usize,
+    v: usize,
+    d: f64,
+    r: Relation,
+)
+    requires { ⌜ v < 2048 ⌝ }
+    requires { ⌜ Narrow r ⌝ }
+    requires { ⌜ Sides r ⌝ }
+    requires { ⌜ (4 * elements ≤ length (now costs)) × (4 * elements ≤ length (now preds)) ⌝ }
+    ensures { λ _. ⌜ tables (now (costs .exit)) (now (preds .exit)) ≡ followBoth elements v d r (tables (now (costs .entry)) (now (preds .entry))) ⌝ }
+{
+    follow_link(costs, preds, v, d, link_ahead(elements, r));
+    follow_link(costs, preds, v, d, link_behind(elements, r));
+}
+
+// All external edges out of node v, in the relations' order.
+fn relax_external(
+    costs: &mut [f64],
+    preds: &mut [u32],
+    elements: usize,
+    from: &[u32],
+    to: &[u32],
+    from_side: &[u32],
+    to_side: &[u32],
+    forward: &[u32],
+    backward: &[u32],
+    v: usize,
+    d: f64,
+)
+    requires { ⌜ v < 2048 ⌝ }
+    requires { ⌜ Even (relationsOf (now from) (now to) (now «from_side») (now «to_side») (now forward) (now backward)) ⌝ }
+    requires { ⌜ (4 * elements ≤ length (now costs)) × (4 * elements ≤ length (now preds)) ⌝ }
+    ensures { λ _. ⌜ tables (now (costs .exit)) (now (preds .exit)) ≡ relaxExternal elements (relationsOf (now (from .entry)) (now (to .entry)) (now («from_side» .entry)) (now («to_side» .entry)) (now (forward .entry)) (now (backward .entry))) v d (tables (now (costs .entry)) (now (preds .entry))) ⌝ }
+{
+    for k in 0..from.len() {
+        let r = relation_at(from, to, from_side, to_side, forward, backward, k);
+        follow_relation(costs, preds, elements, v, d, r);
+    }
+}
+
+// The other side of the same element.
+fn opposite_of(v: usize) -> usize
+    requires { ⌜ v < 2048 ⌝ }
+    ensures { λ r. ⌜ r ≡ opposite v ⌝ }
+{
+    2 * (v / 2) + (1 - v % 2)
+}
+
+// The state s is settled: it is marked, and what its edges reach is lowered.
+pub fn settle(
+    costs: &mut [f64],
+    preds: &mut [u32],
+    marks: &mut [bool],
+    lengths: &[f64],
+    from: &[u32],
+    to: &[u32],
+    from_side: &[u32],
+    to_side: &[u32],
+    forward: &[u32],
+    backward: &[u32],
+    s: usize,
+)
+    requires { ⌜ Sound (graphOf (now lengths) (now from) (now to) (now «from_side») (now «to_side») (now forward) (now backward)) ⌝ }
+    requires { ⌜ Room (length (now lengths)) (searchOf (now costs) (now preds) (now marks)) ⌝ }
+    requires { ⌜ s < 4 * length (now lengths) ⌝ }
+    ensures { λ _. ⌜ searchOf (now (costs .exit)) (now (preds .exit)) (now (marks .exit)) ≡ settled (graphOf (now (lengths .entry)) (now (from .entry)) (now (to .entry)) (now («from_side» .entry)) (now («to_side» .entry)) (now (forward .entry)) (now (backward .entry))) s (searchOf (now (costs .entry)) (now (preds .entry)) (now (marks .entry))) ⌝ }
+{
+    marks[s] = true;
+    let d = costs[s];
+    lower_state(costs, preds, s, 2 * opposite_of(s / 2), d + lengths[s / 4]);
+    if s % 2 == 0 {
+        relax_external(
+            costs,
+            preds,
+            lengths.len(),
+            from,
+            to,
+            from_side,
+            to_side,
+            forward,
+            backward,
+            s / 2,
+            d,
+        );
+    }
+}
+
+// The search, from tables that hold where it starts: the state of the goal at which it ends.
+pub fn find(
+    costs: &mut [f64],
+    preds: &mut [u32],
+    marks: &mut [bool],
+    lengths: &[f64],
+    from: &[u32],
+    to: &[u32],
+    from_side: &[u32],
+    to_side: &[u32],
+    forward: &[u32],
+    backward: &[u32],
+    goal: usize,
+) -> Pick
+    requires { ⌜ Sound (graphOf (now lengths) (now from) (now to) (now «from_side») (now «to_side») (now forward) (now backward)) ⌝ }
+    requires { ⌜ Room (length (now lengths)) (searchOf (now costs) (now preds) (now marks)) ⌝ }
+    ensures { λ r. ⌜ endedAt r (searchOf (now (costs .exit)) (now (preds .exit)) (now (marks .exit))) ≡ run (graphOf (now (lengths .entry)) (now (from .entry)) (now (to .entry)) (now («from_side» .entry)) (now («to_side» .entry)) (now (forward .entry)) (now (backward .entry))) goal (left (now (marks .entry)) (4 * length (now (lengths .entry)))) (searchOf (now (costs .entry)) (now (preds .entry)) (now (marks .entry))) ⌝ }
+{
+    loop {
+        let picked = next_state(costs, marks, 4 * lengths.len());
+        match picked {
+            Pick::At(s) => {
+                if s / 2 == goal {
+                    return Pick::At(s);
+                }
+                settle(
+                    costs,
+                    preds,
+                    marks,
+                    lengths,
+                    from,
+                    to,
+                    from_side,
+                    to_side,
+                    forward,
+                    backward,
+                    s,
+                );
+            }
+            Pick::Nothing => {
+                return Pick::Nothing;
+            }
+        }
+    }
+}
