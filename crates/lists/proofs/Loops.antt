@@ -24,11 +24,11 @@ and-both false b e = clash e refl
 pub both-and : {a b : Bool} → a ≡ true → b ≡ true → a && b ≡ true
 both-and p q = rw (p, q)
 
-or-either : (a b : Bool) → a || b ≡ true → (a ≡ true) ⊎ (b ≡ true)
+pub or-either : (a b : Bool) → a || b ≡ true → (a ≡ true) ⊎ (b ≡ true)
 or-either true b e = inl refl
 or-either false b e = inr e
 
-or-right : (a : Bool) → a || true ≡ true
+pub or-right : (a : Bool) → a || true ≡ true
 or-right true = refl
 or-right false = refl
 

@@ -2,3 +2,16 @@
 pub mod Picks
 pub mod Links
 pub mod Turns
+pub mod Runs
+pub mod Kept
+pub mod WalkCosts
+pub mod Relaxing
+pub mod LeastPick
+pub mod Traces
+pub mod Settling
+pub mod Ends
+pub mod Accepted
+pub mod Back
+pub mod Routes
+pub mod Promise
+pub mod Connected

@@ -1,7 +1,7 @@
--- Where a relation's links lead: to a state of the network, where they are passable and the relation's sides are 0 or 1. Assumes nothing.
+-- Where edges lead: to a state of the network, if a link is passable and its relation's sides are 0 or 1. Assumes nothing.
 use mathlib.Core.Path.{_≡_}
 use mathlib.Core.Bool.{true, not, _&&_}
-use Prim.Native.Nat.{ℕ, _+_, _*_, _<_, _≤_}
+use Prim.Native.Nat.{ℕ, _+_, _*_, _/_, _<_, _≤_}
 use native.Mathlib.Omega.{arith}
 use lib.Dec.{ltb, eqb}
 use lib.ListN.{length, getD}
@@ -9,7 +9,7 @@ use borrow.Author.Tests.{ltb-true}
 use Rattle.lists.proofs.Loops.{and-both}
 use Rattle.routing.specs.declared.link.Relation.{Relation}
 use Rattle.routing.specs.Network.{Relations}
-use Rattle.routing.specs.Walks.{node, relationAt, usable, navigable, ahead, behind}
+use Rattle.routing.specs.Walks.{node, opposite, relationAt, usable, navigable, ahead, behind}
 use Rattle.routing.specs.Sound.{Even, Sides, Lands}
 
 pub sides-at : (rs : Relations) → Even rs → (k : ℕ) → Sides (relationAt rs k)
@@ -34,3 +34,11 @@ module _ (elements n : ℕ) (r : Relation) (sides : Sides r) (room : 4 * element
   pub behind-lands : Lands n (behind elements r)
   unfolding behind node
   behind-lands e = omega (arith, navigable-known elements r (r .backward) e, sides .fromSide)
+
+-- the internal edge leads to a state of the network too
+pub opposite-lands : (elements s : ℕ) → s < 4 * elements → 2 * opposite (s / 2) < 4 * elements
+unfolding opposite
+opposite-lands elements s h =
+    let v : ℕ = s / 2 in
+    let k : v < 2 * elements = omega arith in
+    omega arith

@@ -10,13 +10,14 @@ use native.Mathlib.Omega.{arith}
 use lib.Dec.{eqb}
 use lib.ListN.{length, getD, set, replicate, length-set}
 use lib.Seq.{getD-set-same, getD-set-other}
-use lib.Ieee.{Float, nan}
+use lib.Ieee.{Float, nan, add, binary64}
 use borrow.Author.Tests.{eq-eqb, ne-eqb}
 use Rattle.lists.specs.Loops.{upTo}
 use Rattle.routing.specs.declared.link.Link.{Link}
 use Rattle.routing.specs.declared.search.Pick.{Pick}
 use Rattle.routing.specs.declared.search.Pick.the-variants.{At, Nothing}
 use Rattle.routing.specs.Network.{Graph, count, relationCount}
+use Rattle.routing.specs.Walks.{opposite}
 use Rattle.routing.specs.Sound.{Room}
 use Rattle.routing.specs.Search.{Within, Tables, tables, lower, follow, followBoth, followAt, relaxExternal, relaxInternal, relax, Search, settled, next, Ended, endedAt, arrive, turn, run, left, noMarks}
 use Rattle.routing.proofs.Picks.{pick-within, picked-open}
@@ -43,14 +44,15 @@ left-falls marks s (suc n) h len l =
     (λ k. left-there marks s n k (left-falls marks s n h len k))
     (eq-or-lt-of-le (le-of-suc-le-suc l))
 
-none-marked : (n x : ℕ) → getD (replicate n false) x false ≡ false
-none-marked zero x = refl
-none-marked (suc n) zero = refl
-none-marked (suc n) (suc x) = none-marked n x
+-- past the end too, where the default is what is repeated
+pub repeated : {A : Type 0} (a : A) (n x : ℕ) → getD (replicate n a) x a ≡ a
+repeated a zero x = refl
+repeated a (suc n) zero = refl
+repeated a (suc n) (suc x) = repeated a n x
 
 pub unmarked : (x : ℕ) → getD noMarks x false ≡ false
 unfolding noMarks
-unmarked x = none-marked 4096 x
+unmarked x = repeated false 4096 x
 
 -- before the first turn every state is left
 pub left-all : (n : ℕ) → left noMarks n ≡ n
@@ -123,3 +125,21 @@ module _ (n : ℕ) (Kept : Tables → Type 0) (keeps : (from to : ℕ) (cost : F
   kept-relax g s t h k =
       let inner = keeps s _ _ t h k in
       kept-cond (eqb (s % 2) 0) _ _ (kept-external g (s / 2) _ _ (omega arith) inner) inner
+
+-- ---- what settling is made of
+
+module _ (g : Graph) (s : ℕ) (q : Search) {t : Tables} {u : ℕ} (turned : u ≡ opposite (s / 2))
+    (inner : t ≡ lower s (2 * u) (add binary64 (getD (q .tables .costs) s nan) (getD (g .lengths) (s / 4) nan)) (q .tables)) where
+  pub settled-odd : (s % 2 ≡ 0 → ⊥) → _≡_ {A = Search} (record { tables = t; marks = set (q .marks) s true }) (settled g s q)
+  unfolding settled relax relaxInternal
+  settled-odd h = rw (ne-eqb _ _ h, ← turned, inner)
+
+  pub settled-even : s % 2 ≡ 0 → {t′ : Tables} → t′ ≡ relaxExternal (count g) (g .relations) (s / 2) (getD (q .tables .costs) s nan) t →
+      _≡_ {A = Search} (record { tables = t′; marks = set (q .marks) s true }) (settled g s q)
+  unfolding settled relax relaxInternal
+  settled-even h e = rw (eq-eqb _ _ h, ← turned, ← inner, e)
+
+-- tables of the same lengths have room for as many elements
+pub room-same : (n : ℕ) (q q′ : Search) → Room n q → length (q′ .tables .costs) ≡ length (q .tables .costs) →
+    length (q′ .tables .preds) ≡ length (q .tables .preds) → length (q′ .marks) ≡ length (q .marks) → Room n q′
+room-same n q q′ r a b c = record { costs = rw a (r .costs); preds = rw b (r .preds); marks = rw c (r .marks) }

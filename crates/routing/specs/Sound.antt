@@ -10,8 +10,9 @@ use Rattle.routing.specs.declared.link.Link.{Link}
 use Rattle.routing.specs.Network.{Relations, Graph, count}
 use Rattle.routing.specs.Search.{Search}
 
--- relation fields of one count, and sides 0 or 1
+-- relation fields of one count within its limit, and sides 0 or 1
 pub record Even (rs : Relations) : Type 0 where
+  pub few : length (rs .from) ≤ 4096
   pub to : length (rs .to) ≡ length (rs .from)
   pub fromSide : length (rs .fromSide) ≡ length (rs .from)
   pub toSide : length (rs .toSide) ≡ length (rs .from)

@@ -5,7 +5,9 @@ use crate::network::Checked;
 use crate::network::check_network;
 use crate::search::Pick;
 use crate::search::find;
-use binary64::infinity;
+use crate::search::no_costs;
+use crate::search::no_marks;
+use crate::search::no_preds;
 ghost use mathlib.Core.Path.{_≡_};
 ghost use mathlib.Core.List.{_++_, reverse};
 ghost use Prim.Native.Nat.{ℕ, _*_, _<_, _≤_};
@@ -58,9 +60,9 @@ fn distance_between(
     requires { ⌜ start < 2 * length (now lengths) ⌝ }
     ensures { λ r. ⌜ r ≡ costOfEnd (searched (graphOf (now (lengths .entry)) (now (from .entry)) (now (to .entry)) (now («from_side» .entry)) (now («to_side» .entry)) (now (forward .entry)) (now (backward .entry))) start goal) ⌝ }
 {
-    let mut costs = [infinity(); 4096];
-    let mut preds = [0u32; 4096];
-    let mut marks = [false; 4096];
+    let mut costs = no_costs();
+    let mut preds = no_preds();
+    let mut marks = no_marks();
     costs[2 * start] = 0.0;
     let end = find(
         &mut costs,
@@ -237,9 +239,9 @@ fn states_between(
     ensures { λ r. ⌜ r ≡ listingOf (costOfEnd (searched (graphOf (now (lengths .entry)) (now (from .entry)) (now (to .entry)) (now («from_side» .entry)) (now («to_side» .entry)) (now (forward .entry)) (now (backward .entry))) start goal)) (length (statesOfEnd (2 * start) (4 * length (now (lengths .entry))) (searched (graphOf (now (lengths .entry)) (now (from .entry)) (now (to .entry)) (now («from_side» .entry)) (now («to_side» .entry)) (now (forward .entry)) (now (backward .entry))) start goal))) (length (now (states .entry))) ⌝ }
     ensures { λ r. ⌜ now (states .exit) ≡ stored r (statesOfEnd (2 * start) (4 * length (now (lengths .entry))) (searched (graphOf (now (lengths .entry)) (now (from .entry)) (now (to .entry)) (now («from_side» .entry)) (now («to_side» .entry)) (now (forward .entry)) (now (backward .entry))) start goal)) (now (states .entry)) ⌝ }
 {
-    let mut costs = [infinity(); 4096];
-    let mut preds = [0u32; 4096];
-    let mut marks = [false; 4096];
+    let mut costs = no_costs();
+    let mut preds = no_preds();
+    let mut marks = no_marks();
     costs[2 * start] = 0.0;
     let end = find(
         &mut costs,

@@ -11,11 +11,30 @@ ghost use lib.ListN.{length};
 ghost use Rattle.routing.specs.Network.{graphOf, relationsOf, count};
 ghost use Rattle.routing.specs.Sound.{Even, Narrow, Sound, Sides, Lands, Room};
 ghost use Rattle.routing.specs.Walks.{opposite};
-ghost use Rattle.routing.specs.Search.{Within, costOf, better, pickOf, tables, lower, follow, followBoth, relaxExternal, settled, searchOf, endedAt, left, run};
+ghost use Rattle.routing.specs.Search.{Within, costOf, better, pickOf, tables, lower, follow, followBoth, relaxExternal, settled, searchOf, endedAt, left, run, noCosts, noPreds, noMarks};
 
 pub enum Pick {
     At(usize),
     Nothing,
+}
+
+// The tables before a search: no state is reached or settled.
+pub fn no_costs() -> [f64; 4096]
+    ensures { λ r. ⌜ r ≡ noCosts ⌝ }
+{
+    [infinity(); 4096]
+}
+
+pub fn no_preds() -> [u32; 4096]
+    ensures { λ r. ⌜ r ≡ noPreds ⌝ }
+{
+    [0u32; 4096]
+}
+
+pub fn no_marks() -> [bool; 4096]
+    ensures { λ r. ⌜ r ≡ noMarks ⌝ }
+{
+    [false; 4096]
 }
 
 // What a pick costs; none costs infinity.

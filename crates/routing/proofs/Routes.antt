@@ -1,0 +1,176 @@
+-- What the functions around the search hand on: local tables are those that `searched` begins with, a route is read off its end, and an unknown
+-- side has none. Assumes nothing.
+use mathlib.Core.Path.{_≡_, refl, sym, ap, subst, _∙_}
+use mathlib.Core.Bool.{Bool, true, false, cond, _&&_}
+use mathlib.Core.List.{List, [], reverse}
+use Prim.Native.Nat.{ℕ, zero, suc, _*_, _<_}
+use native.Mathlib.Omega.{arith}
+use lib.Dec.{ltb}
+use lib.ListN.{length, getD, set, length-reverse}
+use lib.Ieee.{Float, nan, inf}
+use borrow.Author.Tests.{ltb-true}
+use Rattle.lists.proofs.Loops.{and-both}
+use Rattle.binary64.specs.Values.{pzero}
+use Rattle.routing.specs.declared.search.Pick.{Pick}
+use Rattle.routing.specs.declared.search.Pick.the-variants.{At, Nothing}
+use Rattle.routing.specs.declared.network.Checked.{Checked}
+use Rattle.routing.specs.declared.network.Checked.the-variants.{Accepted, Refused}
+use Rattle.routing.specs.declared.route.Route.{Route}
+use Rattle.routing.specs.declared.route.Route.the-variants.{Cost, Unreachable}
+use Rattle.routing.specs.declared.route.Distance.the-variants.{Known, Refused as DistanceRefused}
+use Rattle.routing.specs.declared.route.Listing.{Listing}
+use Rattle.routing.specs.declared.route.Listing.the-variants.{NoRoute, Refused as ListingRefused}
+use Rattle.routing.specs.declared.triple.Consistency.the-variants.{Refused as ConsistencyRefused}
+use Rattle.routing.specs.Network.{Network, Graph, count, checked}
+use Rattle.routing.specs.Walks.{node}
+use Rattle.routing.specs.Sound.{Sound, Room}
+use Rattle.routing.specs.Search.{Within, Search, searchOf, Ended, run, left, noCosts, noPreds, noMarks, begun, searched}
+use Rattle.routing.specs.Route.{knownSide, endCost, costOfEnd, route, stepsBack, back, endStates, statesOfEnd, routeStates, distanceBy, distanceOf, listingOf, listingBy, listing, stored}
+use Rattle.routing.specs.Triple.{consistent, consistencyOf, consistencyBy, consistency}
+use Rattle.routing.proofs.Turns.{left-all}
+use Rattle.routing.proofs.Kept.{Full, begun-full, searched-lengths, searched-within}
+
+pub length-back : (preds : List ℕ) (n s : ℕ) → length (back preds n s) ≡ n
+unfolding back
+length-back preds zero s = refl
+length-back preds (suc n) s = ap suc (length-back preds n (getD preds s 0))
+
+-- ---- local tables
+
+-- the tables of a search that begins are as `begun` has them
+module _ (from : ℕ) {costs : List Float} {preds : List ℕ} {marks : List Bool} (cs : costs ≡ noCosts) (ps : preds ≡ noPreds) (ms : marks ≡ noMarks) where
+  pub is-begun : searchOf (set costs (2 * from) pzero) preds marks ≡ begun from
+  unfolding begun
+  is-begun = rw (cs, ps, ms)
+
+  pub begun-room : (g : Graph) → Sound g → Room (count g) (searchOf (set costs (2 * from) pzero) preds marks)
+  begun-room g sound =
+      let full = begun-full from in
+      rw is-begun (record { costs = omega (arith, full .costs, sound .few); preds = omega (arith, full .preds, sound .few); marks = omega (arith, full .marks, sound .few) })
+
+-- the search from there is `searched`
+module _ (g : Graph) (from goal : ℕ) {e : Ended} {q : Search} (beginning : q ≡ begun from) (ran : e ≡ run g goal (left (q .marks) (4 * count g)) q) where
+  pub is-searched : e ≡ searched g from goal
+  unfolding searched begun
+  is-searched = ran ∙ rw (beginning, left-all (4 * count g))
+
+  module _ (s : ℕ) (picked : e .pick ≡ At s) where
+    pub found-cost : Cost (getD (e .search .tables .costs) s nan) ≡ costOfEnd (searched g from goal)
+    unfolding costOfEnd endCost
+    found-cost = rw (← is-searched, picked)
+
+    pub found-states : let preds = e .search .tables .preds in
+        reverse (back preds (stepsBack preds (2 * from) (4 * count g) s) s) ≡ statesOfEnd (2 * from) (4 * count g) (searched g from goal)
+    unfolding statesOfEnd endStates
+    found-states = rw (← is-searched, picked)
+
+    pub found-count : let preds = e .search .tables .preds in
+        stepsBack preds (2 * from) (4 * count g) s ≡ length (statesOfEnd (2 * from) (4 * count g) (searched g from goal))
+    found-count = rw (← found-states, length-reverse, length-back)
+
+    module _ (room : ℕ) (l : Listing) where
+      pub found-listing : let preds = e .search .tables .preds in
+          l ≡ listingOf (Cost (getD (e .search .tables .costs) s nan)) (stepsBack preds (2 * from) (4 * count g) s) room →
+          l ≡ listingOf (costOfEnd (searched g from goal)) (length (statesOfEnd (2 * from) (4 * count g) (searched g from goal))) room
+      found-listing h = rw (← found-cost, ← found-count) h
+
+      pub found-stored : (buffer : List ℕ) {after : List ℕ} → let preds = e .search .tables .preds in
+          after ≡ stored l (reverse (back preds (stepsBack preds (2 * from) (4 * count g) s) s)) buffer →
+          after ≡ stored l (statesOfEnd (2 * from) (4 * count g) (searched g from goal)) buffer
+      found-stored buffer h = rw (← found-states) h
+
+    pub found-below : Sound g → s < 4096
+    found-below sound =
+        let w : Within (4 * count g) (At s) = subst (Within (4 * count g)) (ap (λ (d : Ended). d .pick) (sym is-searched) ∙ picked) (searched-within g sound from goal) in
+        omega (arith, w, sound .few)
+
+  pub found-full : Sound g → Full (e .search)
+  found-full sound = rw is-searched (searched-lengths g sound from goal)
+
+  module _ (nothing : e .pick ≡ Nothing) where
+    pub none-cost : Unreachable ≡ costOfEnd (searched g from goal)
+    unfolding costOfEnd endCost
+    none-cost = rw (← is-searched, nothing)
+
+    pub none-listing : (n room : ℕ) → NoRoute ≡ listingOf (costOfEnd (searched g from goal)) n room
+    unfolding listingOf
+    none-listing n room = rw (← none-cost)
+
+-- ---- sides
+
+pub known-node : (elements element side : ℕ) → knownSide elements element side ≡ true → node element side < 2 * elements
+unfolding knownSide node
+known-node elements element side e =
+    let p = and-both (ltb element elements) (ltb side 2) e in
+    omega (arith, ltb-true element elements (p .0), ltb-true side 2 (p .1))
+
+module _ (g : Graph) (element side element′ side′ : ℕ) where
+  module _ (known : knownSide (count g) element side ≡ true) (known′ : knownSide (count g) element′ side′ ≡ true)
+      {from goal : ℕ} (at-from : from ≡ node element side) (at-goal : goal ≡ node element′ side′) where
+    pub route-between : costOfEnd (searched g from goal) ≡ route g element side element′ side′
+    unfolding route
+    route-between = rw (known, known′, at-from, at-goal)
+
+    pub states-between : statesOfEnd (2 * from) (4 * count g) (searched g from goal) ≡ routeStates g element side element′ side′
+    unfolding routeStates
+    states-between = rw (known, known′, at-from, at-goal)
+
+    module _ (room : ℕ) (l : Listing) where
+      pub listing-between : l ≡ listingOf (costOfEnd (searched g from goal)) (length (statesOfEnd (2 * from) (4 * count g) (searched g from goal))) room →
+          l ≡ listingOf (route g element side element′ side′) (length (routeStates g element side element′ side′)) room
+      listing-between h = rw (← route-between, ← states-between) h
+
+      pub stored-between : (buffer : List ℕ) {after : List ℕ} → after ≡ stored l (statesOfEnd (2 * from) (4 * count g) (searched g from goal)) buffer →
+          after ≡ stored l (routeStates g element side element′ side′) buffer
+      stored-between buffer h = rw (← states-between) h
+
+  pub route-unknown-start : knownSide (count g) element side ≡ false → Unreachable ≡ route g element side element′ side′
+  unfolding route
+  route-unknown-start e = rw e
+
+  pub route-unknown-goal : knownSide (count g) element side ≡ true → knownSide (count g) element′ side′ ≡ false → Unreachable ≡ route g element side element′ side′
+  unfolding route
+  route-unknown-goal e e′ = rw (e, e′)
+
+  module _ (n room : ℕ) where
+    pub unlisted-start : knownSide (count g) element side ≡ false → NoRoute ≡ listingOf (route g element side element′ side′) n room
+    unfolding listingOf
+    unlisted-start e = rw (← route-unknown-start e)
+
+    pub unlisted-goal : knownSide (count g) element side ≡ true → knownSide (count g) element′ side′ ≡ false →
+        NoRoute ≡ listingOf (route g element side element′ side′) n room
+    unfolding listingOf
+    unlisted-goal e e′ = rw (← route-unknown-goal e e′)
+
+-- ---- answers, by what the checks say
+
+module _ (net : Network) (element side element′ side′ : ℕ) {a : Checked} (told : a ≡ checked net) where
+  pub distance-accepted : a ≡ Accepted → {r : Route} → r ≡ route (net .graph) element side element′ side′ → Known r ≡ distanceOf net element side element′ side′
+  unfolding distanceOf distanceBy
+  distance-accepted e h = rw (sym told ∙ e, h)
+
+  pub distance-refused : (k : ℕ) → a ≡ Refused k → DistanceRefused k ≡ distanceOf net element side element′ side′
+  unfolding distanceOf distanceBy
+  distance-refused k e = rw (sym told ∙ e)
+
+  module _ (room : ℕ) where
+    pub listing-accepted : a ≡ Accepted → {l : Listing} →
+        l ≡ listingOf (route (net .graph) element side element′ side′) (length (routeStates (net .graph) element side element′ side′)) room →
+        l ≡ listing net element side element′ side′ room
+    unfolding listing listingBy
+    listing-accepted e h = rw (sym told ∙ e) h
+
+    pub listing-refused : (k : ℕ) → a ≡ Refused k → ListingRefused k ≡ listing net element side element′ side′ room
+    unfolding listing listingBy
+    listing-refused k e = rw (sym told ∙ e)
+
+-- ---- triples
+
+module _ (net : Network) (a b c : ℕ) {answer : Checked} (told : answer ≡ checked net) where
+  pub consistency-accepted : answer ≡ Accepted → {r : Bool} → r ≡ consistent (net .graph) a b c → consistencyOf r ≡ consistency net a b c
+  unfolding consistency consistencyBy
+  consistency-accepted e h = rw (sym told ∙ e, h)
+
+  pub consistency-refused : (k : ℕ) → answer ≡ Refused k → ConsistencyRefused k ≡ consistency net a b c
+  unfolding consistency consistencyBy
+  consistency-refused k e = rw (sym told ∙ e)
