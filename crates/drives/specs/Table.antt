@@ -49,7 +49,7 @@ outAndBack = over (relationsOf (0 ∷ 1 ∷ []) (1 ∷ 2 ∷ []) (1 ∷ 0 ∷ []
 
 -- ---- routes: asked, and answered
 
-asked : List Distance
+unfoldable pub asked : List Distance
 asked =
     distanceOf line 0 1 2 0
     ∷ distanceOf line 0 0 2 1
