@@ -1,0 +1,12 @@
+-- Laws of the definitions of `specs/`.
+pub mod Lists
+pub mod Rules
+pub mod Product
+pub mod Stores
+pub mod Reading
+pub mod WellFormed
+pub mod Tests
+pub mod Records
+pub mod Walk
+pub mod Ends
+pub mod Places

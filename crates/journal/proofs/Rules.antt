@@ -1,0 +1,126 @@
+-- The rules of a candidate, a cell and a row as facts, and back as tests. Assumes nothing.
+use Prim.Native.Nat.{ℕ, _*_, _<_, _≤_}
+use native.Mathlib.Omega.{arith}
+use mathlib.Core.Path.{_≡_}
+use mathlib.Core.Bool.{Bool, _&&_}
+use lib.Dec.{T, leb, ltb, eqb, leb→le, le→leb, ltb→lt, lt→ltb, eqb→eq}
+use lib.ListN.{length}
+use lib.Ieee.Fits.{and-i, and-l, and-r, eq→eqb}
+use Rattle.journal.specs.declared.record.Candidate.{Candidate}
+use Rattle.journal.specs.Lists.{all}
+use Rattle.journal.specs.Row.{Fix, Cell, Row, count, size, beforeOf}
+use Rattle.journal.specs.Ranges.{candidateLimit, elementLimit, intrinsicOk, rawLogOk, distanceOk, scoreOk, parentOk, candidateOk, cellOk, fixOk}
+use Rattle.journal.specs.Journal.{rowOk}
+
+-- ---- tests joined
+
+three : (a b c : Bool) → T (a && (b && c)) → T a × T b × T c
+three a b c h =
+    let k = and-r a (b && c) h in
+    (and-l a (b && c) h, and-l b c k, and-r b c k)
+
+of-three : (a b c : Bool) → T a → T b → T c → T (a && (b && c))
+of-three a b c p q r = and-i a (b && c) p (and-i b c q r)
+
+pub four : (a b c d : Bool) → T (a && (b && (c && d))) → T a × T b × T c × T d
+four a b c d h =
+    let k = three b c d (and-r a (b && (c && d)) h) in
+    (and-l a (b && (c && d)) h, k .0, k .1, k .2)
+
+pub of-four : (a b c d : Bool) → T a → T b → T c → T d → T (a && (b && (c && d)))
+of-four a b c d p q r s = and-i a (b && (c && d)) p (of-three b c d q r s)
+
+five : (a b c d e : Bool) → T (a && (b && (c && (d && e)))) → T a × T b × T c × T d × T e
+five a b c d e h =
+    let k = four b c d e (and-r a (b && (c && (d && e))) h) in
+    (and-l a (b && (c && (d && e))) h, k .0, k .1, k .2, k .3)
+
+of-five : (a b c d e : Bool) → T a → T b → T c → T d → T e → T (a && (b && (c && (d && e))))
+of-five a b c d e p q r s t = and-i a (b && (c && (d && e))) p (of-four b c d e q r s t)
+
+-- ---- a candidate
+
+pub record CandidateRules (n : ℕ) (c : Candidate) : Type 0 where
+  pub element : c .element < n
+  pub intrinsic : T (intrinsicOk (c .intrinsic))
+  pub near : c .near ≤ 1
+  pub rawLog : T (rawLogOk (c .«raw_log»))
+
+pub candidate-rules : (n : ℕ) (c : Candidate) → T (candidateOk n c) → CandidateRules n c
+unfolding candidateOk
+candidate-rules n c h =
+    let k = four (ltb (c .element) n) (intrinsicOk (c .intrinsic)) (leb (c .near) 1) (rawLogOk (c .«raw_log»)) h in
+    record { element = ltb→lt (c .element) n (k .0); intrinsic = k .1; near = leb→le (c .near) 1 (k .2); rawLog = k .3 }
+
+pub rules-candidate : (n : ℕ) (c : Candidate) → CandidateRules n c → T (candidateOk n c)
+unfolding candidateOk
+rules-candidate n c h =
+    of-four (ltb (c .element) n) (intrinsicOk (c .intrinsic)) (leb (c .near) 1) (rawLogOk (c .«raw_log»))
+    (lt→ltb (c .element) n (h .element)) (h .intrinsic) (le→leb (c .near) 1 (h .near)) (h .rawLog)
+
+-- in a network of n elements, and so in one of more
+pub candidate-wider : (n m : ℕ) (c : Candidate) → n ≤ m → T (candidateOk n c) → T (candidateOk m c)
+candidate-wider n m c h k =
+    let r = candidate-rules n c k in
+    rules-candidate m c (record { element = omega (arith, r .element); intrinsic = r .intrinsic; near = r .near; rawLog = r .rawLog })
+
+-- ---- a cell
+
+pub record CellRules (p n : ℕ) (c : Cell) : Type 0 where
+  pub candidate : T (candidateOk elementLimit (c .candidate))
+  pub parent : T (parentOk p (c .parent))
+  pub score : T (scoreOk n (c .score))
+
+pub cell-rules : (p n : ℕ) (c : Cell) → T (cellOk p n c) → CellRules p n c
+unfolding cellOk
+cell-rules p n c h =
+    let k = three (candidateOk elementLimit (c .candidate)) (parentOk p (c .parent)) (scoreOk n (c .score)) h in
+    record { candidate = k .0; parent = k .1; score = k .2 }
+
+pub rules-cell : (p n : ℕ) (c : Cell) → CellRules p n c → T (cellOk p n c)
+unfolding cellOk
+rules-cell p n c h = of-three (candidateOk elementLimit (c .candidate)) (parentOk p (c .parent)) (scoreOk n (c .score)) (h .candidate) (h .parent) (h .score)
+
+-- ---- a fix
+
+pub record FixRules (n : ℕ) (f : Fix) : Type 0 where
+  pub few : count f ≤ candidateLimit
+  pub candidates : T (all (candidateOk n) (f .candidates))
+  pub distances : T (all distanceOk (f .distances))
+
+pub fix-rules : (n : ℕ) (f : Fix) → T (fixOk n f) → FixRules n f
+fix-rules n f h =
+    let k = three (leb (count f) candidateLimit) (all (candidateOk n) (f .candidates)) (all distanceOk (f .distances)) h in
+    record { few = leb→le (count f) candidateLimit (k .0); candidates = k .1; distances = k .2 }
+
+pub rules-fix : (n : ℕ) (f : Fix) → FixRules n f → T (fixOk n f)
+rules-fix n f h =
+    of-three (leb (count f) candidateLimit) (all (candidateOk n) (f .candidates)) (all distanceOk (f .distances))
+    (le→leb (count f) candidateLimit (h .few)) (h .candidates) (h .distances)
+
+-- ---- a row
+
+pub record RowRules (q n : ℕ) (r : Row) : Type 0 where
+  pub few : size r ≤ candidateLimit
+  pub before : r .before ≡ beforeOf q (size r)
+  pub number : length (r .distances) ≡ size r * r .before
+  pub cells : T (all (cellOk (r .before) n) (r .cells))
+  pub distances : T (all distanceOk (r .distances))
+
+pub row-rules : (q n : ℕ) (r : Row) → T (rowOk q n r) → RowRules q n r
+unfolding rowOk
+row-rules q n r h =
+    let k = five (leb (size r) candidateLimit) (eqb (r .before) (beforeOf q (size r))) (eqb (length (r .distances)) (size r * r .before)) (all (cellOk (r .before) n) (r .cells)) (all distanceOk (r .distances)) h in
+    record {
+      few = leb→le (size r) candidateLimit (k .0);
+      before = eqb→eq (r .before) (beforeOf q (size r)) (k .1);
+      number = eqb→eq (length (r .distances)) (size r * r .before) (k .2);
+      cells = k .3;
+      distances = k .4;
+    }
+
+pub rules-row : (q n : ℕ) (r : Row) → RowRules q n r → T (rowOk q n r)
+unfolding rowOk
+rules-row q n r h =
+    of-five (leb (size r) candidateLimit) (eqb (r .before) (beforeOf q (size r))) (eqb (length (r .distances)) (size r * r .before)) (all (cellOk (r .before) n) (r .cells)) (all distanceOk (r .distances))
+    (le→leb (size r) candidateLimit (h .few)) (eq→eqb (h .before)) (eq→eqb (h .number)) (h .cells) (h .distances)

@@ -1,0 +1,219 @@
+-- The walk of check 7 over the records. Assumes nothing.
+use Prim.Native.Nat.{ℕ, suc, _+_, _-_, _/_, _%_, _<_, _≤_}
+use native.Mathlib.Omega.{arith}
+use native.Mathlib.Numerals.{add-one}
+use mathlib.Core.Path.{_≡_, refl, sym, ap, _∙_}
+use mathlib.Core.Bool.{Bool, true, false, _&&_, cond}
+use mathlib.Core.List.{List, [], _∷_}
+use mathlib.Core.Option.{Option, none, some}
+use lib.Dec.{T, eqb, leb, eqb→eq}
+use lib.ListN.{length, getD, drop, length-append, length-drop, drop-of-length-le}
+use lib.Seq.{drop-drop}
+use lib.Ieee.Fits.{and-l, eq→eqb}
+use Rattle.binary64.proofs.Order.{taken, same-test}
+use Rattle.journal.specs.Lists.{starts}
+use Rattle.journal.specs.Row.{Row, size, scores, predecessor, sizeOf}
+use Rattle.journal.specs.Ranges.{rowLimit}
+use Rattle.journal.specs.Record.{usedWord, recordOf, readRow}
+use Rattle.journal.specs.Journal.{words, rowOk, recordOk, readRows, used, usedWords, readJournal}
+use Rattle.journal.specs.Check.{pick, wellRead, recordAt, latestOf, candidatesOf, surveyOf, survey}
+use Rattle.journal.specs.declared.read.Record.the-variants.{Bad, Whole}
+use Rattle.journal.specs.declared.check.Predecessor.{Predecessor}
+use Rattle.journal.specs.declared.check.Predecessor.the-variants.{Nothing, At}
+use Rattle.journal.specs.declared.check.Survey.the-variants.{NotWellFormed, WellFormed}
+use Rattle.journal.proofs.Lists.{starts-split}
+use Rattle.journal.proofs.Reading.{read-at, read-end}
+
+-- ---- the predecessor
+
+latest-size : (rs : List Row) → candidatesOf (latestOf rs) ≡ sizeOf (predecessor rs)
+unfolding latestOf predecessor pick
+latest-size [] = refl
+latest-size (r ∷ rs) = go (scores r) (latest-size rs)
+  where
+    go : (b : Bool) → candidatesOf (latestOf rs) ≡ sizeOf (predecessor rs)
+        → candidatesOf (pick b (At (suc (length (words rs))) (length rs) (size r)) (latestOf rs)) ≡ sizeOf (cond b (some r) (predecessor rs))
+    go true ih = refl
+    go false ih = ih
+
+latest-new : (r : Row) (rs : List Row) → latestOf (r ∷ rs) ≡ pick (scores r) (At (suc (length (words rs))) (length rs) (size r)) (latestOf rs)
+unfolding latestOf
+latest-new r rs = refl
+
+-- ---- one record
+
+whole-bad : {A : Type 0} {l c : ℕ} {s : Bool} → Bad ≡ Whole l c s → A
+whole-bad e = let z : _≡_ {A = ℕ} 0 1 = cc in absurd (omega arith)
+
+module _ (rs : List Row) (ws : List ℕ) where
+  abbrev passes : Bool
+  passes = recordOk rs (readRow ws) ws
+
+  is-ok : recordAt (sizeOf (predecessor rs)) (length rs) ws ≡ pick passes (Whole (length (recordOf (readRow ws))) (size (readRow ws)) (scores (readRow ws))) Bad
+  unfolding recordAt wellRead
+  is-ok = refl
+
+  -- what a whole record is
+  pub record Found (l c : ℕ) (s : Bool) : Type 0 where
+    pub long : l ≡ length (recordOf (readRow ws))
+    pub many : c ≡ size (readRow ws)
+    pub score : s ≡ scores (readRow ws)
+    pub ok : T (recordOk rs (readRow ws) ws)
+
+  found : (l c : ℕ) (s : Bool) → recordAt (sizeOf (predecessor rs)) (length rs) ws ≡ Whole l c s → Found l c s
+  unfolding pick
+  found l c s e = go passes refl (sym is-ok ∙ e)
+    where
+      go : (b : Bool) → passes ≡ b → pick b (Whole (length (recordOf (readRow ws))) (size (readRow ws)) (scores (readRow ws))) Bad ≡ Whole l c s → Found l c s
+      go true q k = record { long = cc; many = cc; score = cc; ok = taken q }
+      go false q k = whole-bad k
+
+  bad : recordAt (sizeOf (predecessor rs)) (length rs) ws ≡ Bad → recordOk rs (readRow ws) ws ≡ false
+  unfolding pick
+  bad e = go passes refl (sym is-ok ∙ e)
+    where
+      go : (b : Bool) → passes ≡ b → pick b (Whole (length (recordOf (readRow ws))) (size (readRow ws)) (scores (readRow ws))) Bad ≡ Bad → passes ≡ false
+      go true q k = whole-bad (sym k)
+      go false q k = q
+
+  -- a record lies within the words, and has three at least
+  fits : T (recordOk rs (readRow ws) ws) → (3 ≤ length (recordOf (readRow ws))) × (length (recordOf (readRow ws)) ≤ length ws)
+  fits t =
+      let split = starts-split (recordOf (readRow ws)) ws (and-l (starts (recordOf (readRow ws)) ws) (rowOk (sizeOf (predecessor rs)) (length rs) (readRow ws)) t) in
+      (three (readRow ws), omega (arith, simp length-append at (ap length split)))
+    where
+      three : (r : Row) → 3 ≤ length (recordOf r)
+      three r = unfold recordOf in simp length-append (omega arith)
+
+-- ---- the walk
+
+-- at a place of the used words, with so many rows read and this predecessor of a further one
+pub record Walked (journal : List ℕ) (at rows : ℕ) (latest : Predecessor) : Type 0 where
+  pub standing : List Row
+  pub counted : length standing ≡ rows
+  pub few : rows ≤ rowLimit
+  pub placed : suc (length (words standing)) ≡ at
+  pub inside : at ≤ length journal
+  pub last : latestOf standing ≡ latest
+  pub left : readRows (rowLimit - rows) standing (drop at journal) ≡ readRows rowLimit [] (drop 1 journal)
+
+pub walked-start : (journal : List ℕ) → 1 ≤ length journal → Walked journal 1 0 Nothing
+walked-start journal h = record {
+  standing = [];
+  counted = refl;
+  few = omega arith;
+  placed = unfold words in refl;
+  inside = h;
+  last = unfold latestOf in refl;
+  left = refl;
+}
+
+module _ (journal : List ℕ) (at rows : ℕ) (latest : Predecessor) (w : Walked journal at rows latest) where
+  -- as the row reader is asked
+  asked : recordAt (candidatesOf latest) rows (drop at journal) ≡ recordAt (sizeOf (predecessor (w .standing))) (length (w .standing)) (drop at journal)
+  asked =
+      ap (λ (x : Predecessor). recordAt (candidatesOf x) rows (drop at journal)) (sym (w .last))
+      ∙ ap (λ (q : ℕ). recordAt q rows (drop at journal)) (latest-size (w .standing))
+      ∙ ap (λ (n : ℕ). recordAt (sizeOf (predecessor (w .standing))) n (drop at journal)) (sym (w .counted))
+
+  module _ (here : at < length journal) where
+    some-left : 0 < length (drop at journal)
+    some-left = simp length-drop (omega arith)
+
+    -- no room for a further row
+    pub walked-full : rows ≡ rowLimit → surveyOf (length journal) (readRows rowLimit [] (drop 1 journal)) ≡ NotWellFormed
+    walked-full e =
+        let none-left : rowLimit - rows ≡ 0 = omega arith in
+        ap (surveyOf (length journal)) (sym (w .left) ∙ ap (λ (n : ℕ). readRows n (w .standing) (drop at journal)) none-left ∙ full (w .standing) (drop at journal) some-left)
+      where
+        full : (rs : List Row) (ws : List ℕ) → 0 < length ws → readRows 0 rs ws ≡ none
+        full rs [] h = absurd (omega arith)
+        full rs (x ∷ ws) h = unfold readRows in refl
+
+    module _ (room : rows < rowLimit) where
+      one-more : rowLimit - rows ≡ suc (rowLimit - (rows + 1))
+      one-more = omega arith
+
+      -- no record
+      pub walked-bad : recordAt (candidatesOf latest) rows (drop at journal) ≡ Bad → surveyOf (length journal) (readRows rowLimit [] (drop 1 journal)) ≡ NotWellFormed
+      walked-bad e =
+          ap (surveyOf (length journal))
+          (sym (w .left) ∙ ap (λ (n : ℕ). readRows n (w .standing) (drop at journal)) one-more
+          ∙ broken (rowLimit - (rows + 1)) (w .standing) (drop at journal) some-left (bad (w .standing) (drop at journal) (sym asked ∙ e)))
+        where
+          broken : (n : ℕ) (rs : List Row) (ws : List ℕ) → 0 < length ws → recordOk rs (readRow ws) ws ≡ false → readRows (suc n) rs ws ≡ none
+          broken n rs [] h q = absurd (omega arith)
+          broken n rs (x ∷ ws) h q = unfold readRows in rw q
+
+      -- a record: its length, and the walk past it
+      module _ (l c : ℕ) (s : Bool) (e : recordAt (candidatesOf latest) rows (drop at journal) ≡ Whole l c s) where
+        one-found : Found (w .standing) (drop at journal) l c s
+        one-found = found (w .standing) (drop at journal) l c s (sym asked ∙ e)
+
+        pub walked-room : (3 ≤ l) × (at + l ≤ length journal)
+        walked-room =
+            let f = one-found in
+            let g = fits (w .standing) (drop at journal) (f .ok) in
+            (omega (arith, f .long, g .0), omega (arith, f .long, g .1, length-drop at journal))
+
+        pub walked-turn : Walked journal (at + l) (rows + 1) (pick s (At at rows c) latest)
+        walked-turn =
+            let f = one-found in
+            let r = readRow (drop at journal) in
+            record {
+              standing = r ∷ w .standing;
+              counted = ap suc (w .counted) ∙ sym (add-one rows);
+              few = omega arith;
+              placed = longer r (f .long);
+              inside = walked-room .1;
+              last = latest-new r (w .standing) ∙ picked r (f .many) (f .score);
+              left = sym (ap (λ (n : ℕ). readRows n (w .standing) (drop at journal)) one-more
+                  ∙ read-at (rowLimit - (rows + 1)) (w .standing) r (drop at journal) some-left refl (f .ok)
+                  ∙ ap (λ (n : ℕ). readRows (rowLimit - (rows + 1)) (r ∷ w .standing) (drop n (drop at journal))) (sym (f .long))
+                  ∙ ap (readRows (rowLimit - (rows + 1)) (r ∷ w .standing)) (drop-drop l at journal)) ∙ w .left;
+            }
+          where
+            longer : (r : Row) → l ≡ length (recordOf r) → suc (length (words (r ∷ w .standing))) ≡ at + l
+            longer r q = unfold words in omega (arith, length-append (words (w .standing)) (recordOf r), w .placed)
+
+            picked : (r : Row) → c ≡ size r → s ≡ scores r → pick (scores r) (At (suc (length (words (w .standing)))) (length (w .standing)) (size r)) (latestOf (w .standing)) ≡ pick s (At at rows c) latest
+            picked r a b = cc (w .placed, w .counted, w .last)
+
+  -- the end of the used words
+  pub walked-end : length journal ≤ at → surveyOf (length journal) (readRows rowLimit [] (drop 1 journal)) ≡ WellFormed rows at latest
+  walked-end h =
+      let ended : readRows rowLimit [] (drop 1 journal) ≡ some (w .standing) = sym (w .left) ∙ ap (readRows (rowLimit - rows) (w .standing)) (drop-of-length-le journal h) ∙ read-end (rowLimit - rows) (w .standing) in
+      let all : length journal ≡ at = omega (arith, w .inside) in
+      ap (surveyOf (length journal)) ended ∙ cc (w .counted, w .last)
+
+-- ---- word 0
+
+-- kind 5
+used-kind : (w : ℕ) → eqb w (usedWord (w % 268435456)) ≡ eqb (w / 268435456) 5
+used-kind w = same-test (eqb w (usedWord (w % 268435456))) (eqb (w / 268435456) 5) (λ t. kind (eqb→eq w (usedWord (w % 268435456)) t)) (λ t. word (eqb→eq (w / 268435456) 5 t))
+  where
+    kind : w ≡ usedWord (w % 268435456) → T (eqb (w / 268435456) 5)
+    kind e = let d : w / 268435456 ≡ 5 = omega arith in eq→eqb d
+
+    word : w / 268435456 ≡ 5 → T (eqb w (usedWord (w % 268435456)))
+    word e = let d : w ≡ usedWord (w % 268435456) = omega arith in eq→eqb d
+
+-- by what each test of word 0 gives
+pub survey-by : (s : List ℕ) (a b d : Bool) → eqb (getD s 0 0 / 268435456) 5 ≡ a → leb 1 (used s) ≡ b → leb (used s) (length s) ≡ d
+    → pick a (pick b (pick d (surveyOf (used s) (readRows rowLimit [] (drop 1 (usedWords s)))) NotWellFormed) NotWellFormed) NotWellFormed ≡ survey s
+unfolding survey readJournal pick
+survey-by s a b d e f g = sym (rw (used-kind (getD s 0 0), e, f, g) (go a b d))
+  where
+    rest : Option (List Row)
+    rest = readRows rowLimit [] (drop 1 (usedWords s))
+
+    go : (a b d : Bool) → surveyOf (used s) (cond (a && (b && d)) rest none) ≡ pick a (pick b (pick d (surveyOf (used s) rest) NotWellFormed) NotWellFormed) NotWellFormed
+    go true true true = refl
+    go true true false = refl
+    go true false d = refl
+    go false b d = refl
+
+pub survey-none : (s : List ℕ) → length s ≡ 0 → NotWellFormed ≡ survey s
+unfolding pick
+survey-none [] e = survey-by [] false (leb 1 0) (leb 0 0) refl refl refl
+survey-none (w ∷ s) e = absurd (omega arith)

@@ -1,0 +1,109 @@
+-- `journal::read::body_reads` meets its contract. Assumes nothing.
+use native.Mathlib.Omega.{arith}
+use mathlib.Core.Path.{sym, _∙_}
+use borrow.Author.Tests.{eq-eqb, ne-eqb, not-true, not-false}
+use borrow.Author.Needs.{needs}
+use Rattle.journal.specs.Check.{bodyReads}
+use Rattle.journal.specs.Record.{recordLength}
+use Rattle.journal.proofs.Records.{body-last}
+use Rattle.journal.proofs.read.body_reads.Statement.{statement}
+use Rattle.journal.proofs.read.body_reads.Tie as tie
+
+cast-cells-read : tie.Need-cast-cells-read
+cast-cells-read c = search needs
+
+cells-read-requires : tie.Need-cells-read-requires
+unfolding recordLength
+cells-read-requires c κs = omega arith
+
+returns : tie.Need-returns
+unfolding bodyReads
+returns c = simp (sym (c .before .cells-read .ensures) ∙ not-true _ (c .if1 .taken))
+
+distance-count-requires : tie.Need-distance-count-requires
+distance-count-requires c κs = search needs
+
+mul-at : tie.Need-mul-at
+mul-at c = search needs
+
+add-at : tie.Need-add-at
+add-at c = search needs
+
+mul-if2 : tie.Need-mul-if2
+mul-if2 c = search needs
+
+shared-slice-read-if2 : tie.Need-shared-slice-read-if2
+unfolding recordLength
+shared-slice-read-if2 c = omega arith
+
+cast-if2 : tie.Need-cast-if2
+cast-if2 c = search needs
+
+add-if2 : tie.Need-add-if2
+add-if2 c = search needs
+
+returns-2 : tie.Need-returns-2
+unfolding bodyReads
+returns-2 c = simp (sym (c .before .before .before .before .cells-read .ensures) ∙ not-false _ (c .before .before .before .if1 .left), ← c .before .before .distance-count .ensures .0, ne-eqb _ _ (c .if2 .taken))
+
+add-distances-read : tie.Need-add-distances-read
+add-distances-read c = search needs
+
+distances-read-requires : tie.Need-distances-read-requires
+unfolding recordLength
+distances-read-requires c κs = omega (arith, c .before .before .distance-count .ensures .0)
+
+returns-3 : tie.Need-returns-3
+unfolding bodyReads
+returns-3 c = simp (sym (c .before .before .before .before .before .before .cells-read .ensures) ∙ not-false _ (c .before .before .before .before .before .if1 .left), ← c .before .before .before .before .distance-count .ensures .0, eq-eqb _ _ (c .before .before .if2 .left), sym (c .before .distances-read .ensures) ∙ not-true _ (c .if3 .taken))
+
+record-length-requires : tie.Need-record-length-requires
+record-length-requires c κs = search needs
+
+sub-last : tie.Need-sub-last
+unfolding recordLength
+sub-last c = omega (arith, c .record-length .ensures .0)
+
+mul-result : tie.Need-mul-result
+mul-result c = search needs
+
+shared-slice-read-result : tie.Need-shared-slice-read-result
+unfolding recordLength
+shared-slice-read-result c = omega (arith, c .before .record-length .ensures .0)
+
+cast-result : tie.Need-cast-result
+cast-result c = search needs
+
+add-result : tie.Need-add-result
+add-result c = search needs
+
+returns-4 : tie.Need-returns-4
+returns-4 c =
+    let s = c .before .before .before .before .before .before .before .before .before .before .args in
+    body-last (s .c) (s .p) (s .row) (s .words .now) _ _ (c .before .record-length .ensures .0) (c .before .before .before .before .before .before .distance-count .ensures .0) (sym (c .before .before .before .before .before .before .before .before .cells-read .ensures) ∙ not-false _ (c .before .before .before .before .before .before .before .if1 .left)) (eq-eqb _ _ (c .before .before .before .before .if2 .left)) (sym (c .before .before .before .distances-read .ensures) ∙ not-false _ (c .before .before .if3 .left))
+
+pub body-reads-spec : {M : Type 1} → statement M
+body-reads-spec =
+    tie.close
+    (tie.spec
+    cast-cells-read
+    cells-read-requires
+    returns
+    distance-count-requires
+    mul-at
+    add-at
+    mul-if2
+    shared-slice-read-if2
+    cast-if2
+    add-if2
+    returns-2
+    add-distances-read
+    distances-read-requires
+    returns-3
+    record-length-requires
+    sub-last
+    mul-result
+    shared-slice-read-result
+    cast-result
+    add-result
+    returns-4)

@@ -1,0 +1,64 @@
+-- `journal::read::scores_read` meets its contract. Assumes nothing.
+use Prim.Native.Nat.{_+_, _*_, _-_, _≤_}
+use native.Mathlib.Omega.{arith}
+use mathlib.Core.Bool.{false}
+use mathlib.Core.Path.{_≡_, sym, _∙_}
+use lib.Ieee.Scale.{finite}
+use Rattle.lists.proofs.Loops.{any-none, any-turn, any-done, any-stop}
+use Rattle.lists.specs.Loops.{any}
+use Rattle.journal.specs.Record.{floatAt}
+use Rattle.journal.proofs.read.scores_read.Statement.{statement}
+use Rattle.journal.proofs.read.scores_read.Tie as tie
+
+abbrev Inv-loop : tie.InvT-loop
+Inv-loop words c k₀ k = (k ≤ c) × (any k (λ j. finite (floatAt words (6 + 7 * j))) ≡ false)
+
+abbrev μ-loop : tie.MeasureT-loop
+μ-loop words c k₀ k = c - k
+
+loop-holds : tie.Need-loop-holds Inv-loop μ-loop
+loop-holds c = (omega arith, any-none _)
+
+mul-float-at : tie.Need-mul-float-at Inv-loop μ-loop
+mul-float-at c = omega arith
+
+add-float-at : tie.Need-add-float-at Inv-loop μ-loop
+add-float-at c = omega arith
+
+float-at-requires : tie.Need-float-at-requires Inv-loop μ-loop
+float-at-requires c κs = omega arith
+
+is-finite-requires : tie.Need-is-finite-requires Inv-loop μ-loop
+is-finite-requires c κs = omega arith
+
+returns : tie.Need-returns Inv-loop μ-loop
+returns c = any-stop (c .before .before .before .before .loop .k) _ _ (c .before .before .before .loop-test .taken) (rw (← c .before .before .float-at .ensures) (sym (c .before .is-finite .ensures) ∙ c .if1 .taken))
+
+add-k : tie.Need-add-k Inv-loop μ-loop
+add-k c = omega arith
+
+loop-less : tie.Need-loop-less Inv-loop μ-loop
+loop-less c = omega arith
+
+loop-again : tie.Need-loop-again Inv-loop μ-loop
+loop-again c = (omega arith, any-turn _ _ (c .before .before .before .before .loop .inv .1) (rw (← c .before .before .float-at .ensures) (sym (c .before .is-finite .ensures) ∙ c .if1 .left)))
+
+returns-2 : tie.Need-returns-2 Inv-loop μ-loop
+returns-2 c = any-done _ _ _ (c .before .loop .inv .1) (omega arith)
+
+pub scores-read-spec : {M : Type 1} → statement M
+scores-read-spec =
+    tie.close
+    (tie.spec
+    Inv-loop
+    μ-loop
+    loop-holds
+    mul-float-at
+    add-float-at
+    float-at-requires
+    is-finite-requires
+    returns
+    add-k
+    loop-less
+    loop-again
+    returns-2)

@@ -1,0 +1,62 @@
+-- `journal::record::add_row` meets its contract. Assumes nothing.
+use native.Mathlib.Omega.{arith}
+use mathlib.Core.Path.{sym, _∙_}
+use borrow.Author.Needs.{needs}
+use Rattle.journal.specs.Row.{givenOf, rowGiven}
+use Rattle.journal.specs.Record.{recordLength}
+use Rattle.journal.proofs.Stores.{length-row, row-put}
+use Rattle.journal.proofs.record.add_row.Statement.{statement}
+use Rattle.journal.proofs.record.add_row.Tie as tie
+
+mul-put-row : tie.Need-mul-put-row
+mul-put-row c = search needs
+
+sub-put-row : tie.Need-sub-put-row
+sub-put-row c = search needs
+
+part-put-row-start : tie.Need-part-put-row-start
+part-put-row-start c = search needs
+
+part-put-row-end : tie.Need-part-put-row-end
+part-put-row-end c = search needs
+
+put-row-requires : tie.Need-put-row-requires
+put-row-requires c κs = search needs
+
+add-end : tie.Need-add-end
+add-end c = search needs
+
+cast-journal : tie.Need-cast-journal
+cast-journal c = search needs
+
+add-journal : tie.Need-add-journal
+add-journal c = search needs
+
+slice-write-journal : tie.Need-slice-write-journal
+unfolding recordLength
+slice-write-journal c = search needs
+
+same-length : tie.Need-same-length
+same-length c = search needs
+
+returns : tie.Need-returns
+returns c =
+    let s = c .before .before .before .before .before .before .before .before .before .before .before .before in
+    let g = givenOf (s .args .elements .now) (s .args .intrinsics .now) (s .args .near .now) (s .args .raw-logs .now) (s .args .distances .now) in
+    row-put (s .args .journal .now) _ (s .args .used) _ (rowGiven g (s .args .parents .now) (s .args .scores .now) (s .args .p)) (omega arith) (c .before .before .put-row .ensures .1) (c .before .before .put-row .ensures .0 ∙ sym (length-row g (s .args .parents .now) (s .args .scores .now) (s .args .p) (s .pre .0 .number)))
+
+pub add-row-spec : {M : Type 1} → statement M
+add-row-spec =
+    tie.close
+    (tie.spec
+    mul-put-row
+    sub-put-row
+    part-put-row-start
+    part-put-row-end
+    put-row-requires
+    add-end
+    cast-journal
+    add-journal
+    slice-write-journal
+    same-length
+    returns)

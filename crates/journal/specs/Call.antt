@@ -1,0 +1,59 @@
+-- Opening and striking as functions on a slice's words: what the call answers, and the words that it leaves.
+use Prim.Native.Nat.{ℕ, suc, _≤_}
+use mathlib.Core.Path.{_≡_}
+use mathlib.Core.Bool.{Bool, cond}
+use mathlib.Core.List.{List, [], _∷_}
+use mathlib.Core.Option.{Option, none, some}
+use lib.Dec.{leb}
+use lib.ListN.{length, drop, set}
+use Rattle.journal.specs.Row.{Row}
+use Rattle.journal.specs.Record.{usedWord}
+use Rattle.journal.specs.Journal.{words, readJournal}
+use Rattle.journal.specs.declared.call.Answer.{Answer}
+use Rattle.journal.specs.declared.call.Answer.the-variants.{Done, Refused}
+
+abbrev pub Outcome : Type 0
+Outcome = Answer × List ℕ
+
+-- checks in number order, each with whether it passed: the number of the first that fails
+abbrev pub firstFailed : List (ℕ × Bool) → Option ℕ
+firstFailed [] = none
+firstFailed (c ∷ l) = cond (c .1) (firstFailed l) (some (c .0))
+
+-- a call that is refused leaves the words as they were
+abbrev pub outcome : Option ℕ → List ℕ → List ℕ → Outcome
+outcome none new old = (Done, new)
+outcome (some k) new old = (Refused k, old)
+
+-- opening: check 12 alone, then word 0
+unfoldable pub opening : List ℕ → Outcome
+opening [] = (Refused 12, [])
+opening (w ∷ ws) = (Done, usedWord 1 ∷ ws)
+
+-- word 0 counts these rows
+unfoldable pub cut : List ℕ → List Row → List ℕ
+cut s rs = set s 0 (usedWord (suc (length (words rs))))
+
+abbrev pub strikeRead : List ℕ → ℕ → Option (List Row) → Outcome
+strikeRead s n none = (Refused 7, s)
+strikeRead s n (some rs) = outcome (firstFailed ((13, leb n (length rs)) ∷ [])) (cut s (drop n rs)) s
+
+-- striking the last n rows: checks 7 and 13, then word 0 alone
+unfoldable pub striking : List ℕ → ℕ → Outcome
+striking s n = strikeRead s n (readJournal s)
+
+-- ---- the records of the last rows
+
+-- at least n rows stand
+pub record Standing (s : List ℕ) (n : ℕ) : Type 0 where
+  pub rows : List Row
+  pub reads : readJournal s ≡ some rows
+  pub enough : n ≤ length rows
+
+abbrev pub endRead : ℕ → Option (List Row) → ℕ
+endRead n none = 0
+endRead n (some rs) = suc (length (words (drop n rs)))
+
+-- where the records of the last n rows start
+unfoldable pub endOf : List ℕ → ℕ → ℕ
+endOf s n = endRead n (readJournal s)

@@ -1,0 +1,60 @@
+-- Document 01, "Journal": the words of rows, and reading them back. Well formed, check 7, is what `readJournal` reads: each record is read field by
+-- field, and its words must then be the very words of the row that was read, which obeys the rules.
+use Prim.Native.Nat.{ℕ, zero, suc, _+_, _*_, _%_}
+use mathlib.Core.Bool.{Bool, _&&_, cond}
+use mathlib.Core.List.{List, [], _∷_, _++_}
+use mathlib.Core.Option.{Option, none, some}
+use lib.Dec.{leb, eqb}
+use lib.ListN.{length, getD, take, drop, set}
+use lib.Seq.{sets}
+use Rattle.journal.specs.Lists.{all, starts}
+use Rattle.journal.specs.Row.{Row, size, predecessor, sizeOf, beforeOf}
+use Rattle.journal.specs.Ranges.{candidateLimit, rowLimit, distanceOk, cellOk}
+use Rattle.journal.specs.Record.{usedWord, recordOf, readRow}
+
+-- what follows word 0, the oldest row first
+unfoldable pub words : List Row → List ℕ
+words [] = []
+words (r ∷ rs) = words rs ++ recordOf r
+
+-- the used words of a journal with these rows
+unfoldable pub journal : List Row → List ℕ
+journal rs = usedWord (suc (length (words rs))) ∷ words rs
+
+-- a row's record in the words past the used ones, and word 0 with it counted
+unfoldable pub put : List ℕ → ℕ → Row → List ℕ
+put s n r = set (sets s n (recordOf r)) 0 (usedWord (n + length (recordOf r)))
+
+-- ---- well formed
+
+-- row number n, whose predecessor has q candidates, obeys the rules
+unfoldable pub rowOk : ℕ → ℕ → Row → Bool
+rowOk q n r =
+    leb (size r) candidateLimit
+    && (eqb (r .before) (beforeOf q (size r))
+    && (eqb (length (r .distances)) (size r * r .before) && (all (cellOk (r .before) n) (r .cells) && all distanceOk (r .distances))))
+
+-- the words hold the row's record, and it obeys the rules on the rows before it
+abbrev pub recordOk : List Row → Row → List ℕ → Bool
+recordOk rs r ws = starts (recordOf r) ws && rowOk (sizeOf (predecessor rs)) (length rs) r
+
+-- the rows of the words that follow word 0, on rows already read; at most n more rows
+unfoldable pub readRows : ℕ → List Row → List ℕ → Option (List Row)
+readRows zero rs [] = some rs
+readRows zero rs (w ∷ ws) = none
+readRows (suc n) rs [] = some rs
+readRows (suc n) rs (w ∷ ws) =
+    let r = readRow (w ∷ ws) in
+    let further = readRows n (r ∷ rs) (drop (length (recordOf r)) (w ∷ ws)) in
+    cond (recordOk rs r (w ∷ ws)) further none
+
+-- what word 0 says
+abbrev pub used : List ℕ → ℕ
+used s = getD s 0 0 % 268435456
+
+abbrev pub usedWords : List ℕ → List ℕ
+usedWords s = take (used s) s
+
+unfoldable pub readJournal : List ℕ → Option (List Row)
+readJournal s =
+    cond (eqb (getD s 0 0) (usedWord (used s)) && (leb 1 (used s) && leb (used s) (length s))) (readRows rowLimit [] (drop 1 (usedWords s))) none

@@ -1,0 +1,26 @@
+-- Lists taken apart from the front.
+use Prim.Native.Nat.{ℕ, suc}
+use mathlib.Core.Bool.{Bool, true, false, _&&_}
+use mathlib.Core.List.{List, [], _∷_, _++_}
+use lib.Dec.{eqb}
+
+-- every entry passes the test
+abbrev pub all : {A : Type 0} → (A → Bool) → List A → Bool
+all test [] = true
+all test (a ∷ l) = test a && all test l
+
+-- the words of each entry, one after the other
+abbrev pub flat : {A : Type 0} → (A → List ℕ) → List A → List ℕ
+flat part [] = []
+flat part (a ∷ l) = part a ++ flat part l
+
+-- each entry with its number, from k
+unfoldable pub number : {A B : Type 0} → (ℕ → A → B) → ℕ → List A → List B
+number g k [] = []
+number g k (a ∷ l) = g k a ∷ number g (suc k) l
+
+-- the words ws begin with xs
+abbrev pub starts : List ℕ → List ℕ → Bool
+starts [] ws = true
+starts (x ∷ xs) [] = false
+starts (x ∷ xs) (w ∷ ws) = eqb x w && starts xs ws

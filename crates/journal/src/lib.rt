@@ -1,0 +1,7 @@
+// The journal: records of rows in 32-bit words, check 7, opening and striking.
+pub mod call;
+pub mod check;
+pub mod float;
+pub mod range;
+pub mod read;
+pub mod record;

@@ -1,0 +1,178 @@
+// The row reader: it sees one record from its first word.
+use crate::float::float_at;
+use crate::float::is_finite;
+use crate::range::candidate_ok;
+use crate::range::distance_ok;
+use crate::range::parent_ok;
+use crate::range::score_ok;
+use crate::record::Candidate;
+use crate::record::distance_count;
+use crate::record::record_length;
+ghost use mathlib.Core.Path.{_≡_};
+ghost use Prim.Native.Nat.{_+_, _*_, _<_, _≤_};
+ghost use lib.ListN.{length, drop};
+ghost use lib.Ieee.Scale.{finite};
+ghost use Rattle.lists.specs.Loops.{any, every};
+ghost use Rattle.journal.specs.Row.{beforeOf};
+ghost use Rattle.journal.specs.Ranges.{distanceOk, cellOk};
+ghost use Rattle.journal.specs.Record.{cellWords, floatWords, floatAt, readCell, readDistance, recordLength};
+ghost use Rattle.journal.specs.Check.{wellRead, bodyReads, recordAt};
+
+// What stands at the head of some words: no record, or a record's length, its number of candidates and whether its row scores.
+pub enum Record {
+    Bad,
+    Whole {
+        length: usize,
+        candidates: usize,
+        scores: bool,
+    },
+}
+
+// The candidate whose words start at `at`.
+pub fn candidate_at(words: &[u32], at: usize) -> Candidate
+    requires { ⌜ at + 7 ≤ length (now words) ⌝ }
+    ensures { λ r. ⌜ r ≡ readCell (drop at (now (words .entry))) .candidate ⌝ }
+{
+    let w = words[at];
+    Candidate {
+        element: w % 1024,
+        intrinsic: float_at(words, at + 1),
+        near: w / 1024 % 2,
+        raw_log: float_at(words, at + 3),
+    }
+}
+
+// Whether the words at `at` are a candidate's in this row, with p predecessor candidates.
+fn cell_reads(words: &[u32], at: usize, p: u32, row: usize) -> bool
+    requires { ⌜ (at + 7 ≤ length (now words)) × (row < 65536) ⌝ }
+    ensures { λ r. ⌜ r ≡ wellRead cellWords readCell (cellOk p row) (drop at (now (words .entry))) ⌝ }
+{
+    let w = words[at];
+    if w / 65536 != 8192 {
+        return false;
+    }
+    if !candidate_ok(candidate_at(words, at), 1024) {
+        return false;
+    }
+    if !parent_ok(w / 2048 % 32, p) {
+        return false;
+    }
+    score_ok(float_at(words, at + 5), row)
+}
+
+// Whether those of c candidates are.
+fn cells_read(words: &[u32], c: usize, p: u32, row: usize) -> bool
+    requires { ⌜ (1 + 7 * c ≤ length (now words)) × (row < 65536) ⌝ }
+    ensures { λ r. ⌜ r ≡ every c (λ k. wellRead cellWords readCell (cellOk p row) (drop (1 + 7 * k) (now (words .entry)))) ⌝ }
+{
+    let mut k = 0;
+    while k < c {
+        if !cell_reads(words, 1 + 7 * k, p, row) {
+            return false;
+        }
+        k += 1;
+    }
+    true
+}
+
+// Whether the words at `at` are a distance's.
+fn distance_reads(words: &[u32], at: usize) -> bool
+    requires { ⌜ at + 1 < length (now words) ⌝ }
+    ensures { λ r. ⌜ r ≡ wellRead floatWords readDistance distanceOk (drop at (now (words .entry))) ⌝ }
+{
+    distance_ok(float_at(words, at))
+}
+
+// Whether those of n distances from `at` on are.
+fn distances_read(words: &[u32], at: usize, n: usize) -> bool
+    requires { ⌜ at + 2 * n ≤ length (now words) ⌝ }
+    ensures { λ r. ⌜ r ≡ every n (λ k. wellRead floatWords readDistance distanceOk (drop (at + 2 * k) (now (words .entry)))) ⌝ }
+{
+    let mut k = 0;
+    while k < n {
+        if !distance_reads(words, at + 2 * k) {
+            return false;
+        }
+        k += 1;
+    }
+    true
+}
+
+// Whether one of the scores of c candidates is finite.
+fn scores_read(words: &[u32], c: usize) -> bool
+    requires { ⌜ 1 + 7 * c ≤ length (now words) ⌝ }
+    ensures { λ r. ⌜ r ≡ any c (λ k. finite (floatAt (now (words .entry)) (6 + 7 * k))) ⌝ }
+{
+    let mut k = 0;
+    while k < c {
+        if is_finite(float_at(words, 6 + 7 * k)) {
+            return true;
+        }
+        k += 1;
+    }
+    false
+}
+
+// How many predecessor candidates a row of c candidates counts, where its predecessor has q.
+pub fn before_of(q: usize, c: usize) -> usize
+    ensures { λ r. ⌜ r ≡ beforeOf q c ⌝ }
+{
+    if c == 0 { 0 } else { q }
+}
+
+// Whether what follows the head word of c candidates with p predecessor candidates is a record's.
+fn body_reads(words: &[u32], c: usize, p: usize, row: usize) -> bool
+    requires { ⌜ (c < 32) × (p < 32) × (row < 65536) ⌝ }
+    requires { ⌜ recordLength c p ≤ length (now words) ⌝ }
+    ensures { λ r. ⌜ r ≡ bodyReads c p row (now (words .entry)) ⌝ }
+{
+    if !cells_read(words, c, p as u32, row) {
+        return false;
+    }
+    let n = distance_count(c, p);
+    let at = 1 + 7 * c;
+    if words[at] != 0x3000_0000 + n as u32 {
+        return false;
+    }
+    if !distances_read(words, at + 1, n) {
+        return false;
+    }
+    let length = record_length(c, p);
+    let last = length - 1;
+    words[last] == 0x4000_0000 + length as u32
+}
+
+// The record at the head of the words, as this row on a predecessor of q candidates.
+pub fn read_row(words: &[u32], q: usize, row: usize) -> Record
+    requires { ⌜ row < 65536 ⌝ }
+    ensures { λ r. ⌜ r ≡ recordAt q row (now (words .entry)) ⌝ }
+{
+    if words.len() == 0 {
+        return Record::Bad;
+    }
+    let head = words[0];
+    if head / 1024 != 262144 {
+        return Record::Bad;
+    }
+    let c = (head % 32) as usize;
+    let p = (head / 32 % 32) as usize;
+    if 16 < c {
+        return Record::Bad;
+    }
+    if p != before_of(q, c) {
+        return Record::Bad;
+    }
+    let length = record_length(c, p);
+    if words.len() < length {
+        return Record::Bad;
+    }
+    if !body_reads(words, c, p, row) {
+        return Record::Bad;
+    }
+    let scores = scores_read(words, c);
+    Record::Whole {
+        length,
+        candidates: c,
+        scores,
+    }
+}

@@ -1,0 +1,2 @@
+-- What the contracts of `rows` cite.
+pub mod Row

@@ -1,0 +1,1 @@
+// The row that a fix makes on its predecessor.
