@@ -1,12 +1,12 @@
 -- Document 01's table of drives: the lines marked P, each by computation from the definitions that the contracts cite.
 use mathlib.Core.Path.{_≡_, refl}
-use mathlib.Core.Bool.{false}
+use mathlib.Core.Bool.{true, false}
 use mathlib.Core.List.{List, [], _∷_}
 use Prim.Native.Nat.{ℕ}
-use lib.IntN.{pos}
+use lib.IntN.{pos, negsuc}
 use lib.ListN.{replicate}
-use lib.Ieee.{Float, fin, lt, le, add}
-use Rattle.lists.specs.Loops.{upTo, every}
+use lib.Ieee.{Float, inf, fin, lt, le, add, toBits}
+use Rattle.lists.specs.Loops.{upTo, every, any}
 use Rattle.binary64.specs.Values.{pzero}
 use Rattle.binary64.specs.Ranges.{inRange, inClearRange, inOpenRange}
 use Rattle.routing.specs.declared.route.Route.the-variants.{Cost, Unreachable}
@@ -16,6 +16,15 @@ use Rattle.routing.specs.Network.{Relations, relationsOf, Network, countsFit, l
 use Rattle.routing.specs.Walks.{node, opposite, relationAt, usable, navigable, ahead, behind}
 use Rattle.routing.specs.Search.{costOf, better, pickOf, lower, follow, followBoth, followAt, relaxExternal, relaxInternal, relax, settled, next, arrive, turn, run, noCosts, noPreds, noMarks, begun, searched}
 use Rattle.routing.specs.Route.{knownSide, endCost, costOfEnd, route, distanceBy, distanceOf}
+use Rattle.journal.specs.declared.record.Candidate.{Candidate}
+use Rattle.journal.specs.Lists.{number}
+use Rattle.journal.specs.Row.{Fix, scores, predecessor}
+use Rattle.journal.specs.Record.{recordLength, recordOf}
+use Rattle.journal.specs.Journal.{words, journal}
+use Rattle.transition.specs.declared.step.Settings.{Settings}
+use Rattle.transition.specs.Step.{neitherNear, stepScore, transition}
+use Rattle.rows.specs.Row.{firstBest, lastBest, floor, floored, offer, broken, scored, row, rows}
+use Rattle.decoder.specs.Closing.{Closed, path, follow as followParents, closing}
 
 -- ---- elements 0, 1, 2 of 100, 50, 100 m
 
@@ -61,3 +70,61 @@ asked =
 pub routes : asked ≡ Known (Cost fifty) ∷ Known (Cost twoHundredFifty) ∷ Known Unreachable ∷ Known Unreachable ∷ Known (Cost hundred) ∷ []
 unfolding asked distanceOf distanceBy checked orRefuse countsFit lengthFits lengthsFit headingFits headingsFit sidesFit elementsDiffer every inRange inClearRange inOpenRange route knownSide costOfEnd endCost searched begun run turn arrive next settled relax relaxInternal relaxExternal followAt followBoth follow ahead behind navigable usable node opposite relationAt lower pickOf better costOf noCosts noPreds noMarks upTo lt le add
 routes = refl
+
+-- ---- rows and scores: fixes newest first, and what closing gives
+
+-- any settings in range; no step of these drives depends on them
+abbrev settings : Settings
+settings = record { beta = fin false 5 (pos 1); scale = fin false 5 (pos 1) }
+
+abbrev candidate : ℕ → ℕ → Float → Candidate
+candidate element near rawLog = record { element = element; intrinsic = fin false 1 (negsuc 0); near = near; «raw_log» = rawLog }
+
+abbrev one : Candidate → List Float → Fix
+one c distances = record { candidates = c ∷ []; distances = distances }
+
+abbrev two : Candidate → Candidate → Fix
+two c d = record { candidates = c ∷ d ∷ []; distances = [] }
+
+abbrev minusOne : Float
+minusOne = fin true 1 (pos 0)
+
+abbrev minusTwo : Float
+minusTwo = fin true 1 (pos 1)
+
+abbrev decode : List Fix → Closed
+decode fixes = closing (rows (transition line settings) fixes)
+
+unfoldable pub decoded : List Closed
+decoded =
+    -- one element, logs 0.0 then minus infinity
+    decode (one (candidate 0 1 (inf true)) (pzero ∷ []) ∷ one (candidate 0 1 pzero) [] ∷ [])
+    -- minus infinity then -2.0
+    ∷ decode (one (candidate 0 1 minusTwo) [] ∷ one (candidate 0 1 (inf true)) [] ∷ [])
+    -- elements 0 then 1, neither near, logs 0.0, -1.0
+    ∷ decode (one (candidate 1 0 minusOne) (pzero ∷ []) ∷ one (candidate 0 0 pzero) [] ∷ [])
+    -- two equal last candidates
+    ∷ decode (two (candidate 0 1 minusOne) (candidate 0 1 minusOne) ∷ [])
+    -- equal predecessors
+    ∷ decode (one (candidate 0 1 minusOne) (pzero ∷ pzero ∷ []) ∷ two (candidate 0 1 minusOne) (candidate 0 1 minusOne) ∷ [])
+    -- equal predecessors, into a broken row
+    ∷ decode (one (candidate 1 0 minusOne) (pzero ∷ pzero ∷ []) ∷ two (candidate 0 0 minusOne) (candidate 0 0 minusOne) ∷ [])
+    ∷ []
+
+pub scores-and-paths : decoded
+    ≡ path ((0, 0) ∷ (1, 0) ∷ []) floor
+    ∷ path ((1, 0) ∷ []) minusTwo
+    ∷ path ((0, 0) ∷ (1, 0) ∷ []) (fin true 3 (pos 3))
+    ∷ path ((0, 1) ∷ []) minusOne
+    ∷ path ((0, 0) ∷ (1, 0) ∷ []) minusTwo
+    ∷ path ((0, 1) ∷ (1, 0) ∷ []) (fin true 25 (pos 0))
+    ∷ []
+unfolding decoded closing followParents rows row scored broken offer firstBest lastBest floored number any predecessor scores transition stepScore neitherNear add lt le
+scores-and-paths = refl
+
+-- ---- the dump: one fix, one candidate (element 0, near, 0.5, -1.0)
+
+pub dump : journal (rows (transition line settings) (one (candidate 0 1 minusOne) [] ∷ []))
+    ≡ 0x5000000B ∷ 0x10000001 ∷ 0x2000FC00 ∷ 0x3FE00000 ∷ 0x00000000 ∷ 0xBFF00000 ∷ 0x00000000 ∷ 0xBFF00000 ∷ 0x00000000 ∷ 0x30000000 ∷ 0x4000000A ∷ []
+unfolding journal words recordOf recordLength rows row scored number predecessor scores toBits
+dump = refl

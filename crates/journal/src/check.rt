@@ -64,7 +64,7 @@ fn later(
 }
 
 // Record by record over a journal of used words alone.
-fn walk(journal: &[u32]) -> Survey
+pub fn walk(journal: &[u32]) -> Survey
     requires { ⌜ 1 ≤ length (now journal) ⌝ }
     ensures { λ r. ⌜ r ≡ surveyOf (length (now (journal .entry))) (readRows rowLimit [] (drop 1 (now (journal .entry)))) ⌝ }
 {
