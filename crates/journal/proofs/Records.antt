@@ -1,29 +1,29 @@
 -- What the row reader tests is that the words are those of a record that obeys the rules. Assumes nothing.
 use Prim.Native.Nat.{ℕ, zero, suc, _+_, _-_, _*_, _/_, _<_, _≤_}
 use native.Mathlib.Omega.{arith}
-use native.Mathlib.Nat.{add-zero, mul-zero, mul-suc, add-comm}
+use native.Mathlib.Nat.{mul-zero, mul-suc, add-comm}
 use mathlib.Core.Path.{_≡_, refl, sym, ap, _∙_, subst, fun-ext}
 use mathlib.Core.Bool.{Bool, true, false, _&&_}
 use mathlib.Core.List.{List, [], _∷_, _++_}
 use lib.Dec.{T, leb, eqb, leb→le, le→leb, eqb→eq}
 use lib.ListN.{length, getD, drop, length-drop}
-use lib.Seq.{getD-drop, drop-drop}
+use lib.Seq.{drop-drop}
 use lib.Ieee.{Float}
 use lib.Ieee.Scale.{finite}
 use lib.Ieee.Fits.{and-i, and-l, and-r, eq→eqb}
 use Rattle.lists.specs.Loops.{any, every}
 use Rattle.binary64.proofs.Order.{same-test}
 use Rattle.journal.specs.Lists.{all, flat, starts}
-use Rattle.journal.specs.Row.{Cell, Row, noCell, size, scoreOf, scores, beforeOf}
+use Rattle.journal.specs.Row.{Cell, Row, noCell, size, cellOf, scoreOf, scores, beforeOf}
 use Rattle.journal.specs.Ranges.{candidateLimit, distanceOk, cellOk}
 use Rattle.journal.specs.Record.{headWord, distancesWord, lengthWord, cellWords, floatWords, recordLength, recordOf, floatAt, readCell, readDistance, readEach, headCount, headBefore, readRow}
 use Rattle.journal.specs.Journal.{rowOk}
 use Rattle.journal.specs.Check.{pick, wellRead, bodyReads, recordAt}
 use Rattle.journal.specs.declared.read.Record.{Record}
 use Rattle.journal.specs.declared.read.Record.the-variants.{Bad, Whole}
-use Rattle.journal.proofs.Rules.{four, of-four, row-rules, rules-row}
+use Rattle.journal.proofs.Rules.{four, of-four, five, of-five, row-rules, rules-row}
 use Rattle.journal.proofs.Reading.{length-cells, length-floats, length-record}
-use Rattle.journal.proofs.Tests.{drop-float}
+use Rattle.journal.proofs.Tests.{drop-first, drop-float}
 
 -- ---- tests in another order
 
@@ -109,9 +109,6 @@ one x (a ∷ l) h = (omega arith, sym (eqb→eq x a (and-l (eqb x a) true h)))
 of-one : (x : ℕ) (l : List ℕ) → 0 < length l → getD l 0 0 ≡ x → T (starts (x ∷ []) l)
 of-one x [] h e = absurd (omega arith)
 of-one x (a ∷ l) h e = and-i (eqb x a) true (eq→eqb (sym e)) tt
-
-first-at : (k : ℕ) (ws : List ℕ) → getD (drop k ws) 0 0 ≡ getD ws k 0
-first-at k ws = getD-drop k ws 0 0 ∙ ap (λ (j : ℕ). getD ws j 0) (add-zero k)
 
 -- ---- the record that starts with w, before the other words
 
@@ -218,13 +215,6 @@ body-last c p n ws l m e f a b d = rw (← e, ← f, a, b, d)
 
 -- ---- the whole record
 
-parts : (a b c d e : Bool) → T (a && (b && (c && (d && e)))) → T a × T b × T c × T d × T e
-parts true b c d e h = (tt, four b c d e h .0, four b c d e h .1, four b c d e h .2, four b c d e h .3)
-parts false b c d e h = absurd h
-
-of-parts : (a b c d e : Bool) → T a → T b → T c → T d → T e → T (a && (b && (c && (d && e))))
-of-parts a b c d e p q r s t = and-i a (b && (c && (d && e))) p (of-four b c d e q r s t)
-
 module _ (q n w : ℕ) (body : List ℕ) where
   abbrev c : ℕ
   c = headCount w
@@ -246,7 +236,7 @@ module _ (q n w : ℕ) (body : List ℕ) where
   here t =
       let d = distancesWord (c * p) in
       let l = last w body in
-      let s = parts (eqb (headWord c p) w) (starts (flat cellWords (cellsAt w body)) body) (starts (d ∷ []) (drop (1 + 7 * c) ws)) (starts (flat floatWords (distancesAt w body)) (drop 1 (gapAt w body))) (starts (l ∷ []) (drop (recordLength c p - 1) ws))
+      let s = five (eqb (headWord c p) w) (starts (flat cellWords (cellsAt w body)) body) (starts (d ∷ []) (drop (1 + 7 * c) ws)) (starts (flat floatWords (distancesAt w body)) (drop 1 (gapAt w body))) (starts (l ∷ []) (drop (recordLength c p - 1) ws))
       (subst T (record-starts w body) (and-l (starts (recordOf (rowAt w body)) ws) (rowOk q n (rowAt w body)) t)) in
       let rules = row-rules q n (rowAt w body) (and-r (starts (recordOf (rowAt w body)) ws) (rowOk q n (rowAt w body)) t) in
       let head = eqb→eq (headWord c p) w (s .0) in
@@ -255,16 +245,16 @@ module _ (q n w : ℕ) (body : List ℕ) where
       let kind : w / 1024 ≡ 262144 = omega arith in
       let few : c ≤ candidateLimit = omega (arith, size-is w body, rules .few) in
       let room : recordLength c p ≤ length ws = omega (arith, end .0, length-drop (recordLength c p - 1) ws) in
-      of-parts (eqb (w / 1024) 262144) (leb c candidateLimit) (eqb p (beforeOf q c)) (leb (recordLength c p) (length ws)) (bodyReads c p n ws)
+      of-five (eqb (w / 1024) 262144) (leb c candidateLimit) (eqb p (beforeOf q c)) (leb (recordLength c p) (length ws)) (bodyReads c p n ws)
       (eq→eqb kind)
       (le→leb c candidateLimit few)
       (eq→eqb (rules .before ∙ ap (beforeOf q) (size-is w body)))
       (le→leb (recordLength c p) (length ws) room)
       (of-four (every c (λ k. wellRead cellWords readCell (cellOk p n) (drop (1 + 7 * k) ws))) (eqb (getD ws (1 + 7 * c) 0) d) (every (c * p) (λ k. wellRead floatWords readDistance distanceOk (drop (1 + 7 * c + 1 + 2 * k) ws))) (eqb (getD ws (recordLength c p - 1) 0) l)
       (subst T (cells-test w body n) (and-i (starts (flat cellWords (cellsAt w body)) body) (all (cellOk p n) (cellsAt w body)) (s .1) (rules .cells)))
-      (eq→eqb (sym (first-at (1 + 7 * c) ws) ∙ middle .1))
+      (eq→eqb (sym (drop-first (1 + 7 * c) ws) ∙ middle .1))
       (subst T (distances-test w body) (and-i (starts (flat floatWords (distancesAt w body)) (drop 1 (gapAt w body))) (all distanceOk (distancesAt w body)) (s .3) (rules .distances)))
-      (eq→eqb (sym (first-at (recordLength c p - 1) ws) ∙ end .1)))
+      (eq→eqb (sym (drop-first (recordLength c p - 1) ws) ∙ end .1)))
 
   there : T tested → T asked
   unfolding bodyReads
@@ -273,7 +263,7 @@ module _ (q n w : ℕ) (body : List ℕ) where
       let l = last w body in
       let cells = every c (λ k. wellRead cellWords readCell (cellOk p n) (drop (1 + 7 * k) ws)) in
       let floats = every (c * p) (λ k. wellRead floatWords readDistance distanceOk (drop (1 + 7 * c + 1 + 2 * k) ws)) in
-      let s = parts (eqb (w / 1024) 262144) (leb c candidateLimit) (eqb p (beforeOf q c)) (leb (recordLength c p) (length ws)) (bodyReads c p n ws) t in
+      let s = five (eqb (w / 1024) 262144) (leb c candidateLimit) (eqb p (beforeOf q c)) (leb (recordLength c p) (length ws)) (bodyReads c p n ws) t in
       let b = four cells (eqb (getD ws (1 + 7 * c) 0) d) floats (eqb (getD ws (recordLength c p - 1) 0) l) (s .4) in
       let kind = eqb→eq (w / 1024) 262144 (s .0) in
       let few = leb→le c candidateLimit (s .1) in
@@ -285,12 +275,12 @@ module _ (q n w : ℕ) (body : List ℕ) where
       let one-float = starts (flat floatWords (distancesAt w body)) (drop 1 (gapAt w body)) in
       and-i (starts (recordOf (rowAt w body)) ws) (rowOk q n (rowAt w body))
       (subst T (sym (record-starts w body))
-      (of-parts (eqb (headWord c p) w) one-cell (starts (d ∷ []) (drop (1 + 7 * c) ws)) one-float (starts (l ∷ []) (drop (recordLength c p - 1) ws))
+      (of-five (eqb (headWord c p) w) one-cell (starts (d ∷ []) (drop (1 + 7 * c) ws)) one-float (starts (l ∷ []) (drop (recordLength c p - 1) ws))
       (eq→eqb head)
       (and-l one-cell (all (cellOk p n) (cellsAt w body)) cell)
-      (of-one d (drop (1 + 7 * c) ws) (inside (1 + 7 * c) (early room)) (first-at (1 + 7 * c) ws ∙ eqb→eq (getD ws (1 + 7 * c) 0) d (b .1)))
+      (of-one d (drop (1 + 7 * c) ws) (inside (1 + 7 * c) (early room)) (drop-first (1 + 7 * c) ws ∙ eqb→eq (getD ws (1 + 7 * c) 0) d (b .1)))
       (and-l one-float (all distanceOk (distancesAt w body)) float)
-      (of-one l (drop (recordLength c p - 1) ws) (inside (recordLength c p - 1) (late room)) (first-at (recordLength c p - 1) ws ∙ eqb→eq (getD ws (recordLength c p - 1) 0) l (b .3)))))
+      (of-one l (drop (recordLength c p - 1) ws) (inside (recordLength c p - 1) (late room)) (drop-first (recordLength c p - 1) ws ∙ eqb→eq (getD ws (recordLength c p - 1) 0) l (b .3)))))
       (rules-row q n (rowAt w body) (record {
         few = omega (arith, size-is w body);
         before = eqb→eq p (beforeOf q c) (s .2) ∙ ap (beforeOf q) (sym (size-is w body));
@@ -312,6 +302,23 @@ module _ (q n w : ℕ) (body : List ℕ) where
   unfolding wellRead
   record-test = ap (λ (r : Row). starts (recordOf r) ws && rowOk q n r) (row-is w body) ∙ same-test asked tested here there
 
+-- ---- the fields of the row that is read, by their places
+
+pub row-size : (ws : List ℕ) → size (readRow ws) ≡ headCount (getD ws 0 0)
+unfolding readRow
+row-size ws = length-each readCell 7 (headCount (getD ws 0 0)) (drop 1 ws)
+
+pub row-cell : (ws : List ℕ) (k : ℕ) → k < size (readRow ws) → cellOf (readRow ws) k ≡ readCell (drop (1 + 7 * k) ws)
+unfolding readRow
+row-cell ws k h =
+    let l : k < headCount (getD ws 0 0) = omega (arith, length-each readCell 7 (headCount (getD ws 0 0)) (drop 1 ws)) in
+    getD-each readCell 7 (headCount (getD ws 0 0)) (drop 1 ws) k noCell l ∙ ap readCell (drop-drop (7 * k) 1 ws)
+
+pub row-score : (ws : List ℕ) (k : ℕ) → k < size (readRow ws) → scoreOf (readRow ws) k ≡ floatAt ws (6 + 7 * k)
+row-score ws k h =
+    let plus : 1 + 7 * k + 5 ≡ 6 + 7 * k = omega arith in
+    ap (λ (c : Cell). c .score) (row-cell ws k h) ∙ drop-float (1 + 7 * k) 5 ws ∙ ap (floatAt ws) plus
+
 -- ---- what the row reader finds
 
 pick-and : {A : Type 0} (a b : Bool) (x y : A) → pick (a && b) x y ≡ pick a (pick b x y) y
@@ -325,19 +332,11 @@ record-none q n (w ∷ ws) e = absurd (omega arith)
 
 -- its scores
 scores-at : (w : ℕ) (body : List ℕ) → scores (rowAt w body) ≡ any (headCount w) (λ k. finite (floatAt (w ∷ body) (6 + 7 * k)))
-unfolding scores
+unfolding scores readRow
 scores-at w body =
     ap (λ (m : ℕ). any m (λ i. finite (scoreOf (rowAt w body) i))) (size-is w body)
-    ∙ any-same (headCount w) (λ i. finite (scoreOf (rowAt w body) i)) (λ k. finite (floatAt (w ∷ body) (6 + 7 * k))) score
-  where
-    score : (k : ℕ) → k < headCount w → finite (scoreOf (rowAt w body) k) ≡ finite (floatAt (w ∷ body) (6 + 7 * k))
-    score k h =
-        let plus : 1 + 7 * k + 5 ≡ 6 + 7 * k = omega arith in
-        ap finite (
-        ap (λ (c : Cell). c .score) (getD-each readCell 7 (headCount w) body k noCell h)
-        ∙ ap (λ (l : List ℕ). floatAt l 5) (drop-drop (7 * k) 1 (w ∷ body))
-        ∙ drop-float (1 + 7 * k) 5 (w ∷ body)
-        ∙ ap (floatAt (w ∷ body)) plus)
+    ∙ any-same (headCount w) (λ i. finite (scoreOf (rowAt w body) i)) (λ k. finite (floatAt (w ∷ body) (6 + 7 * k)))
+    (λ k h. ap finite (row-score (w ∷ body) k (omega (arith, size-is w body))))
 
 length-at : (w : ℕ) (body : List ℕ) → length (recordOf (rowAt w body)) ≡ recordLength (headCount w) (headBefore w)
 length-at w body =

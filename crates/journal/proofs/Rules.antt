@@ -30,12 +30,12 @@ four a b c d h =
 pub of-four : (a b c d : Bool) → T a → T b → T c → T d → T (a && (b && (c && d)))
 of-four a b c d p q r s = and-i a (b && (c && d)) p (of-three b c d q r s)
 
-five : (a b c d e : Bool) → T (a && (b && (c && (d && e)))) → T a × T b × T c × T d × T e
+pub five : (a b c d e : Bool) → T (a && (b && (c && (d && e)))) → T a × T b × T c × T d × T e
 five a b c d e h =
     let k = four b c d e (and-r a (b && (c && (d && e))) h) in
     (and-l a (b && (c && (d && e))) h, k .0, k .1, k .2, k .3)
 
-of-five : (a b c d e : Bool) → T a → T b → T c → T d → T e → T (a && (b && (c && (d && e))))
+pub of-five : (a b c d e : Bool) → T a → T b → T c → T d → T e → T (a && (b && (c && (d && e))))
 of-five a b c d e p q r s t = and-i a (b && (c && (d && e))) p (of-four b c d e q r s t)
 
 -- ---- a candidate

@@ -1,12 +1,12 @@
 -- Laws of runs of stores, and of parts of a slice. Assumes nothing.
-use Prim.Native.Nat.{ℕ, zero, suc, _+_, _-_, _*_, _≤_, _<_}
-use native.Mathlib.Nat.{add-zero, add-suc, suc-add, le-refl, sub-zero, zero-sub, suc-sub-suc}
+use Prim.Native.Nat.{ℕ, suc, _+_, _-_, _*_, _≤_, _<_}
+use native.Mathlib.Nat.{add-zero, add-suc, suc-add, le-refl}
 use native.Mathlib.Numerals.{add-one}
 use native.Mathlib.Omega.{arith}
 use mathlib.Core.Path.{_≡_, refl, sym, ap, _∙_}
 use mathlib.Core.List.{List, [], _∷_, _++_, append-nil}
 use lib.ListN.{length, getD, take-append-drop, take, drop, set, length-drop, drop-of-length-le}
-use lib.Seq.{sets, take-nil, take-all, take-suc, length-take-le, take-set-le, drop-set-add}
+use lib.Seq.{sets, take-all, take-suc, length-take-le, take-set-le, drop-set-add}
 use lib.Ieee.{Float, nan}
 use Rattle.journal.specs.Lists.{flat}
 use Rattle.journal.specs.Row.{Cell, Row, Given, noCell, candidateGiven, cellsGiven, rowGiven, givenOf}
@@ -34,13 +34,6 @@ module _ {A : Type 0} where
   take-rest a xs =
       let l : length (drop a xs) ≤ length xs - a = simp length-drop (le-refl _) in
       take-all (length xs - a) (drop a xs) l
-
-  -- the part `&s[a..u]` is what stands after a in the first u
-  pub part-is : (a u : ℕ) (xs : List A) → take (u - a) (drop a xs) ≡ drop a (take u xs)
-  part-is zero u xs = rw sub-zero
-  part-is (suc a) zero xs = rw zero-sub
-  part-is (suc a) (suc u) [] = rw take-nil
-  part-is (suc a) (suc u) (x ∷ xs) = rw suc-sub-suc (part-is a u xs)
 
   -- what a callee that was lent `&mut s[a..]` stored from its first element on, said of s
   pub lent-sets : (a : ℕ) (xs : List A) (vs : List A) → a ≤ length xs

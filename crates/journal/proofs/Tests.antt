@@ -127,7 +127,7 @@ cell-test p n (a ∷ b ∷ d ∷ e ∷ f ∷ g ∷ k ∷ r) w h = same-test (beg
 
 -- ---- at a place
 
-drop-first : (at : ℕ) (ws : List ℕ) → getD (drop at ws) 0 0 ≡ getD ws at 0
+pub drop-first : (at : ℕ) (ws : List ℕ) → getD (drop at ws) 0 0 ≡ getD ws at 0
 drop-first at ws = getD-drop at ws 0 0 ∙ ap (λ (k : ℕ). getD ws k 0) (add-zero at)
 
 pub drop-float : (at i : ℕ) (ws : List ℕ) → floatAt (drop at ws) i ≡ floatAt ws (at + i)

@@ -1,2 +1,3 @@
--- What the contracts of `rows` cite.
+-- What the contracts of `rows` and the laws of its `proofs/` speak of.
 pub mod Row
+pub mod Scoring

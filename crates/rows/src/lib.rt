@@ -1,1 +1,5 @@
 // The row that a fix makes on its predecessor.
+pub mod offer;
+mod offers;
+pub mod previous;
+pub mod row;

@@ -26,7 +26,7 @@ returns : tie.Need-returns
 returns c = refused _ (c .if1 .taken)
 
 slice-write-journal : tie.Need-slice-write-journal
-slice-write-journal c = search needs
+slice-write-journal c = omega arith
 
 same-length : tie.Need-same-length
 same-length c = search needs

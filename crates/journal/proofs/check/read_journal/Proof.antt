@@ -5,7 +5,6 @@ use mathlib.Core.List.{[]}
 use mathlib.Core.Bool.{true, false}
 use mathlib.Core.Path.{refl, sym, ap, _∙_}
 use borrow.Author.Tests.{eq-eqb, ne-eqb, le-leb, lt-leb}
-use borrow.Author.Needs.{needs}
 use lib.Seq.{length-take-le}
 use lib.ListN.{drop}
 use Rattle.journal.specs.Check.{pick, surveyOf}
@@ -19,14 +18,14 @@ returns : tie.Need-returns
 returns c = survey-none _ (c .if1 .taken)
 
 shared-slice-read-word : tie.Need-shared-slice-read-word
-shared-slice-read-word c = search needs
+shared-slice-read-word c = omega arith
 
 returns-2 : tie.Need-returns-2
 unfolding pick
 returns-2 c = survey-by (c .before .before .before .before .args .journal .now) false _ _ (ne-eqb _ _ (c .if2 .taken)) refl refl
 
 cast-used : tie.Need-cast-used
-cast-used c = search needs
+cast-used c = omega arith
 
 returns-3 : tie.Need-returns-3
 unfolding pick

@@ -12,10 +12,10 @@ use Rattle.journal.proofs.float.float_at.Statement.{statement}
 use Rattle.journal.proofs.float.float_at.Tie as tie
 
 mul-bits : tie.Need-mul-bits
-mul-bits c = search needs
+mul-bits c = omega arith
 
 shared-slice-read-bits : tie.Need-shared-slice-read-bits
-shared-slice-read-bits c = search needs
+shared-slice-read-bits c = omega arith
 
 cast-bits : tie.Need-cast-bits
 cast-bits c = omega (arith, c .shared-slice-known .given (c .before .args .at))
@@ -24,13 +24,13 @@ mul-bits-2 : tie.Need-mul-bits-2
 mul-bits-2 c = omega (arith, c .shared-slice-known .given (c .before .args .at))
 
 add-bits : tie.Need-add-bits
-add-bits c = search needs
+add-bits c = omega arith
 
 mul-bits-3 : tie.Need-mul-bits-3
-mul-bits-3 c = search needs
+mul-bits-3 c = omega arith
 
 shared-slice-read-bits-2 : tie.Need-shared-slice-read-bits-2
-shared-slice-read-bits-2 c = search needs
+shared-slice-read-bits-2 c = omega arith
 
 cast-bits-2 : tie.Need-cast-bits-2
 cast-bits-2 c = omega (arith, c .shared-slice-known2 .given (c .before .before .args .at + 1))

@@ -1,5 +1,6 @@
 -- `journal::float::put_float` meets its contract. Assumes nothing.
 use native.Mathlib.Numerals.{add-one}
+use native.Mathlib.Omega.{arith}
 use borrow.Author.Needs.{needs}
 use Rattle.journal.proofs.float.put_float.Statement.{statement}
 use Rattle.journal.proofs.float.put_float.Tie as tie
@@ -8,22 +9,22 @@ bits-of-requires : tie.Need-bits-of-requires
 bits-of-requires c κs = search needs
 
 cast-words : tie.Need-cast-words
-cast-words c = search needs
+cast-words c = omega arith
 
 mul-words : tie.Need-mul-words
-mul-words c = search needs
+mul-words c = omega arith
 
 slice-write-words : tie.Need-slice-write-words
-slice-write-words c = search needs
+slice-write-words c = omega arith
 
 cast-words-2 : tie.Need-cast-words-2
-cast-words-2 c = search needs
+cast-words-2 c = omega arith
 
 add-words : tie.Need-add-words
-add-words c = search needs
+add-words c = omega arith
 
 mul-words-2 : tie.Need-mul-words-2
-mul-words-2 c = search needs
+mul-words-2 c = omega arith
 
 slice-write-words-2 : tie.Need-slice-write-words-2
 slice-write-words-2 c = search needs

@@ -1,12 +1,11 @@
 -- `journal::range::lowest_score` meets its contract. Assumes nothing.
 use native.Mathlib.Omega.{arith}
-use borrow.Author.Needs.{needs}
 use Rattle.journal.proofs.Product.{small-fits, lowest-product}
 use Rattle.journal.proofs.range.lowest_score.Statement.{statement}
 use Rattle.journal.proofs.range.lowest_score.Tie as tie
 
 add-result : tie.Need-add-result
-add-result c = search needs
+add-result c = omega arith
 
 int-to-float-result : tie.Need-int-to-float-result
 int-to-float-result c = small-fits _ (omega arith)

@@ -10,7 +10,7 @@ use Rattle.journal.proofs.read.body_reads.Statement.{statement}
 use Rattle.journal.proofs.read.body_reads.Tie as tie
 
 cast-cells-read : tie.Need-cast-cells-read
-cast-cells-read c = search needs
+cast-cells-read c = omega arith
 
 cells-read-requires : tie.Need-cells-read-requires
 unfolding recordLength
@@ -24,30 +24,30 @@ distance-count-requires : tie.Need-distance-count-requires
 distance-count-requires c κs = search needs
 
 mul-at : tie.Need-mul-at
-mul-at c = search needs
+mul-at c = omega arith
 
 add-at : tie.Need-add-at
-add-at c = search needs
+add-at c = omega arith
 
 mul-if2 : tie.Need-mul-if2
-mul-if2 c = search needs
+mul-if2 c = omega arith
 
 shared-slice-read-if2 : tie.Need-shared-slice-read-if2
 unfolding recordLength
 shared-slice-read-if2 c = omega arith
 
 cast-if2 : tie.Need-cast-if2
-cast-if2 c = search needs
+cast-if2 c = omega arith
 
 add-if2 : tie.Need-add-if2
-add-if2 c = search needs
+add-if2 c = omega arith
 
 returns-2 : tie.Need-returns-2
 unfolding bodyReads
 returns-2 c = simp (sym (c .before .before .before .before .cells-read .ensures) ∙ not-false _ (c .before .before .before .if1 .left), ← c .before .before .distance-count .ensures .0, ne-eqb _ _ (c .if2 .taken))
 
 add-distances-read : tie.Need-add-distances-read
-add-distances-read c = search needs
+add-distances-read c = omega arith
 
 distances-read-requires : tie.Need-distances-read-requires
 unfolding recordLength
@@ -65,17 +65,17 @@ unfolding recordLength
 sub-last c = omega (arith, c .record-length .ensures .0)
 
 mul-result : tie.Need-mul-result
-mul-result c = search needs
+mul-result c = omega arith
 
 shared-slice-read-result : tie.Need-shared-slice-read-result
 unfolding recordLength
 shared-slice-read-result c = omega (arith, c .before .record-length .ensures .0)
 
 cast-result : tie.Need-cast-result
-cast-result c = search needs
+cast-result c = omega arith
 
 add-result : tie.Need-add-result
-add-result c = search needs
+add-result c = omega arith
 
 returns-4 : tie.Need-returns-4
 returns-4 c =

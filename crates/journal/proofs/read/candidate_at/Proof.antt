@@ -1,5 +1,6 @@
 -- `journal::read::candidate_at` meets its contract. Assumes nothing.
 use mathlib.Core.Path.{sym, ap}
+use native.Mathlib.Omega.{arith}
 use borrow.Author.Needs.{needs}
 use Rattle.journal.specs.Row.{Cell}
 use Rattle.journal.proofs.Tests.{cell-at}
@@ -7,19 +8,19 @@ use Rattle.journal.proofs.read.candidate_at.Statement.{statement}
 use Rattle.journal.proofs.read.candidate_at.Tie as tie
 
 mul-w : tie.Need-mul-w
-mul-w c = search needs
+mul-w c = omega arith
 
 shared-slice-read-w : tie.Need-shared-slice-read-w
-shared-slice-read-w c = search needs
+shared-slice-read-w c = omega arith
 
 add-float-at : tie.Need-add-float-at
-add-float-at c = search needs
+add-float-at c = omega arith
 
 float-at-requires : tie.Need-float-at-requires
 float-at-requires c κs = search needs
 
 add-float-at-2 : tie.Need-add-float-at-2
-add-float-at-2 c = search needs
+add-float-at-2 c = omega arith
 
 float-at-requires-2 : tie.Need-float-at-requires-2
 float-at-requires-2 c κs = search needs

@@ -8,10 +8,10 @@ use Rattle.journal.proofs.read.cell_reads.Statement.{statement}
 use Rattle.journal.proofs.read.cell_reads.Tie as tie
 
 mul-w : tie.Need-mul-w
-mul-w c = search needs
+mul-w c = omega arith
 
 shared-slice-read-w : tie.Need-shared-slice-read-w
-shared-slice-read-w c = search needs
+shared-slice-read-w c = omega arith
 
 returns : tie.Need-returns
 returns c =
@@ -40,7 +40,7 @@ returns-3 c =
     (simp (eq-eqb _ _ (c .before .before .before .before .before .if1 .left), ← c .before .before .before .before .candidate-at .ensures, sym (c .before .before .before .candidate-ok .ensures) ∙ not-false _ (c .before .before .if2 .left), sym (c .before .parent-ok .ensures) ∙ not-true _ (c .if3 .taken)))
 
 add-float-at : tie.Need-add-float-at
-add-float-at c = search needs
+add-float-at c = omega arith
 
 float-at-requires : tie.Need-float-at-requires
 float-at-requires c κs = search needs

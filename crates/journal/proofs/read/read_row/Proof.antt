@@ -14,7 +14,7 @@ returns : tie.Need-returns
 returns c = sym (record-none _ _ _ (c .if1 .taken))
 
 shared-slice-read-head : tie.Need-shared-slice-read-head
-shared-slice-read-head c = search needs
+shared-slice-read-head c = omega arith
 
 returns-2 : tie.Need-returns-2
 unfolding pick
@@ -23,10 +23,10 @@ returns-2 c =
     record-by (s .q) (s .row) (s .words .now) false _ _ _ _ (omega arith) (ne-eqb _ _ (c .if2 .taken)) refl refl refl refl
 
 cast-c : tie.Need-cast-c
-cast-c c = search needs
+cast-c c = omega arith
 
 cast-p : tie.Need-cast-p
-cast-p c = search needs
+cast-p c = omega arith
 
 returns-3 : tie.Need-returns-3
 unfolding pick

@@ -9,10 +9,10 @@ use Rattle.journal.proofs.record.add_row.Statement.{statement}
 use Rattle.journal.proofs.record.add_row.Tie as tie
 
 mul-put-row : tie.Need-mul-put-row
-mul-put-row c = search needs
+mul-put-row c = omega arith
 
 sub-put-row : tie.Need-sub-put-row
-sub-put-row c = search needs
+sub-put-row c = omega arith
 
 part-put-row-start : tie.Need-part-put-row-start
 part-put-row-start c = search needs
@@ -24,17 +24,17 @@ put-row-requires : tie.Need-put-row-requires
 put-row-requires c κs = search needs
 
 add-end : tie.Need-add-end
-add-end c = search needs
+add-end c = omega arith
 
 cast-journal : tie.Need-cast-journal
-cast-journal c = search needs
+cast-journal c = omega arith
 
 add-journal : tie.Need-add-journal
-add-journal c = search needs
+add-journal c = omega arith
 
 slice-write-journal : tie.Need-slice-write-journal
 unfolding recordLength
-slice-write-journal c = search needs
+slice-write-journal c = omega arith
 
 same-length : tie.Need-same-length
 same-length c = search needs

@@ -1,40 +1,39 @@
 -- `journal::record::put_cell` meets its contract. Assumes nothing.
 use native.Mathlib.Numerals.{towards-suc}
 use native.Mathlib.Omega.{arith}
-use borrow.Author.Needs.{needs}
 use lib.ListN.{length-set}
 use Rattle.journal.proofs.record.put_cell.Statement.{statement}
 use Rattle.journal.proofs.record.put_cell.Tie as tie
 
 add-words : tie.Need-add-words
-add-words c = search needs
+add-words c = omega arith
 
 mul-words : tie.Need-mul-words
-mul-words c = search needs
+mul-words c = omega arith
 
 add-words-2 : tie.Need-add-words-2
-add-words-2 c = search needs
+add-words-2 c = omega arith
 
 mul-words-2 : tie.Need-mul-words-2
-mul-words-2 c = search needs
+mul-words-2 c = omega arith
 
 add-words-3 : tie.Need-add-words-3
-add-words-3 c = search needs
+add-words-3 c = omega arith
 
 mul-words-3 : tie.Need-mul-words-3
-mul-words-3 c = search needs
+mul-words-3 c = omega arith
 
 slice-write-words : tie.Need-slice-write-words
-slice-write-words c = search needs
+slice-write-words c = omega arith
 
 add-put-float : tie.Need-add-put-float
-add-put-float c = search needs
+add-put-float c = omega arith
 
 put-float-requires : tie.Need-put-float-requires
 put-float-requires c κs = simp length-set (omega arith)
 
 add-put-float-2 : tie.Need-add-put-float-2
-add-put-float-2 c = search needs
+add-put-float-2 c = omega arith
 
 put-float-requires-2 : tie.Need-put-float-requires-2
 put-float-requires-2 c κs =
@@ -42,7 +41,7 @@ put-float-requires-2 c κs =
     simp (k1, length-set) (omega arith)
 
 add-put-float-3 : tie.Need-add-put-float-3
-add-put-float-3 c = search needs
+add-put-float-3 c = omega arith
 
 put-float-requires-3 : tie.Need-put-float-requires-3
 put-float-requires-3 c κs =

@@ -13,19 +13,19 @@ record-length-requires : tie.Need-record-length-requires
 record-length-requires c κs = search needs
 
 cast-words : tie.Need-cast-words
-cast-words c = search needs
+cast-words c = omega arith
 
 add-words : tie.Need-add-words
-add-words c = search needs
+add-words c = omega arith
 
 cast-words-2 : tie.Need-cast-words-2
-cast-words-2 c = search needs
+cast-words-2 c = omega arith
 
 mul-words : tie.Need-mul-words
-mul-words c = search needs
+mul-words c = omega arith
 
 add-words-2 : tie.Need-add-words-2
-add-words-2 c = search needs
+add-words-2 c = omega arith
 
 slice-write-words : tie.Need-slice-write-words
 unfolding recordLength
@@ -38,10 +38,10 @@ put-cells-requires c κs =
     (without-distances _ _ _ _ (s .args .distances .now) _ _ (s .pre .0 .cells), simp length-set (omega arith))
 
 mul-put-distances : tie.Need-mul-put-distances
-mul-put-distances c = search needs
+mul-put-distances c = omega arith
 
 add-put-distances : tie.Need-add-put-distances
-add-put-distances c = search needs
+add-put-distances c = omega arith
 
 put-distances-requires : tie.Need-put-distances-requires
 unfolding recordLength
@@ -51,17 +51,17 @@ put-distances-requires c κs =
     (omega (arith, s .pre .0 .number, simp length-set at (c .before .before .before .put-cells .kept .0)), omega (arith, s .pre .0 .number, product))
 
 cast-words-3 : tie.Need-cast-words-3
-cast-words-3 c = search needs
+cast-words-3 c = omega arith
 
 add-words-3 : tie.Need-add-words-3
-add-words-3 c = search needs
+add-words-3 c = omega arith
 
 sub-words : tie.Need-sub-words
 unfolding recordLength
 sub-words c = omega (arith, c .before .before .before .before .before .before .before .before .record-length .ensures .0)
 
 mul-words-2 : tie.Need-mul-words-2
-mul-words-2 c = search needs
+mul-words-2 c = omega arith
 
 slice-write-words-2 : tie.Need-slice-write-words-2
 unfolding recordLength

@@ -6,19 +6,19 @@ use Rattle.journal.proofs.record.record_length.Statement.{statement}
 use Rattle.journal.proofs.record.record_length.Tie as tie
 
 mul-result : tie.Need-mul-result
-mul-result c = search needs
+mul-result c = omega arith
 
 distance-count-requires : tie.Need-distance-count-requires
 distance-count-requires c κs = search needs
 
 mul-result-2 : tie.Need-mul-result-2
-mul-result-2 c = search needs
+mul-result-2 c = omega arith
 
 add-result : tie.Need-add-result
-add-result c = search needs
+add-result c = omega arith
 
 add-result-2 : tie.Need-add-result-2
-add-result-2 c = search needs
+add-result-2 c = omega arith
 
 returns : tie.Need-returns
 unfolding recordLength

@@ -1,0 +1,6 @@
+-- Laws of the definitions of `specs/`.
+pub mod Best
+pub mod Records
+pub mod Through
+pub mod Filled
+pub mod Rows

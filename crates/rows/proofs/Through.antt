@@ -1,0 +1,30 @@
+-- Offers of one pair, by the case of the code. Assumes nothing.
+use Prim.Native.Nat.{ℕ, suc, _+_, _*_, _<_, _≤_}
+use native.Mathlib.Nat.{mul-comm, mul-le-mul-right, suc-mul}
+use native.Mathlib.Omega.{arith}
+use mathlib.Core.Path.{_≡_, refl, _∙_}
+use mathlib.Core.Bool.{true, false}
+use lib.Ieee.{Float}
+use lib.Ieee.Scale.{finite}
+use Rattle.transition.specs.declared.step.Step.{Step}
+use Rattle.transition.specs.declared.step.Step.the-variants.{Possible, Impossible}
+use Rattle.rows.specs.Row.{_⊕_, through}
+
+-- from no finite score
+pub through-infinite : (s : Float) (step : Step) (l : Float) → finite s ≡ false → Impossible ≡ through s step l
+through-infinite s Impossible l e = refl
+through-infinite s (Possible v) l e = rw e
+
+module _ (s : Float) (step : Step) (l : Float) where
+  pub through-impossible : step ≡ Impossible → Impossible ≡ through s step l
+  through-impossible h = rw h
+
+  pub through-possible : finite s ≡ true → (v : Float) → step ≡ Possible v → Possible (s ⊕ v ⊕ l) ≡ through s step l
+  through-possible e v h = rw (h, e)
+
+-- the distance of a pair is one of the fix's
+pub pair-inside : (count before n i j : ℕ) → i < count → j < before → n ≡ count * before → j * count + i < n
+pair-inside count before n i j h k e =
+    let rows : suc j * count ≤ before * count = mul-le-mul-right count k in
+    let next : suc j * count ≡ j * count + count = suc-mul j count in
+    omega (arith, rows, next, e ∙ mul-comm count before)
