@@ -1,4 +1,4 @@
--- Laws of the definitions of `specs/`, up to demand 3.
+-- Laws of the definitions of `specs/`, up to demand 3, and of what the code does.
 pub mod Best
 pub mod Bound
 pub mod Scores
@@ -7,3 +7,9 @@ pub mod Standing
 pub mod Handed
 pub mod TwoLists
 pub mod Table
+pub mod Refusals
+pub mod Demand3
+pub mod Tests
+pub mod KnownRows
+pub mod Plans
+pub mod Writing

@@ -1,0 +1,161 @@
+-- What closing answers, from the walk. Assumes nothing.
+use Prim.Native.Nat.{ℕ, suc, _+_, _*_, _<_, _≤_}
+use native.Mathlib.Omega.{arith}
+use mathlib.Core.Path.{_≡_, refl, sym, ap, _∙_, subst}
+use mathlib.Core.Bool.{Bool, true, false, cond}
+use mathlib.Core.List.{List, [], _∷_, _++_, map, reverse, reverseAux, reverseAux-eq}
+use mathlib.Core.Option.{Option, none, some}
+use borrow.Author.Tests.{le-leb, lt-leb}
+use lib.Dec.{T, leb}
+use lib.ListN.{length, drop, length-drop, length-reverse}
+use lib.Ieee.{Float}
+use Rattle.binary64.proofs.Order.{taken}
+use Rattle.journal.specs.Row.{Row, size, scores, predecessor, sizeOf}
+use Rattle.journal.specs.Record.{recordOf, readRow}
+use Rattle.journal.specs.Journal.{words, used, readJournal}
+use Rattle.journal.specs.WellFormed.{Obey}
+use Rattle.journal.specs.Check.{latestOf, survey}
+use Rattle.journal.specs.declared.check.Predecessor.{Predecessor}
+use Rattle.journal.specs.declared.check.Predecessor.the-variants.{Nothing, At}
+use Rattle.journal.specs.declared.check.Survey.the-variants.{NotWellFormed, WellFormed}
+use Rattle.journal.proofs.Lists.{some-none}
+use Rattle.journal.proofs.WellFormed.{used-well}
+use Rattle.journal.proofs.Ends.{formed, Surveyed, survey-rows, survey-no}
+use Rattle.journal.proofs.Places.{row-obeys, row-at, row-inside, Latest, latest-some, latest-none}
+use Rattle.rows.specs.Row.{bestOf}
+use Rattle.rows.specs.Scoring.{RecordStands, previousOf}
+use Rattle.rows.specs.declared.previous.Previous.{Previous}
+use Rattle.decoder.specs.Closing.{Pairs, Closed, nothing, path, closing}
+use Rattle.decoder.specs.Call.{gave, refused, pathLength, closeRead, closingOn}
+use Rattle.closing.specs.Walk.{rowsRead, standing, firstRows, Reached, pathFrom, Entry, rowOf, candidateOf, column}
+use Rattle.closing.specs.Close.{answered, stored, Scoring}
+use Rattle.closing.specs.declared.walk.Back.{Back}
+use Rattle.closing.specs.declared.close.Closing.the-variants.{Path}
+use Rattle.closing.proofs.Best.{best-below}
+use Rattle.closing.proofs.Steps.{obey-low, obey-room, first-all}
+
+-- ---- the pairs in row order
+
+map-back : {A B : Type 0} (f : A → B) (l r : List A) → map f (reverseAux l r) ≡ reverseAux (map f l) (map f r)
+map-back f [] r = refl
+map-back f (a ∷ l) r = map-back f l (a ∷ r)
+
+length-order : (w : Pairs) (n : ℕ) → n ≡ 0 + length w → n ≡ length (reverse w)
+length-order w n e = omega (arith, length-reverse w)
+
+column-order : (f : Entry) (w : Pairs) (n : ℕ) (buffer : List ℕ) → n ≡ 0 + length w → column f w n buffer ≡ map f (reverse w) ++ drop (length (reverse w)) buffer
+unfolding column
+column-order f w n buffer e =
+    reverseAux-eq (map f w) (drop n buffer)
+    ∙ ap (λ (l : List ℕ). l ++ drop n buffer) (sym (map-back f w []))
+    ∙ ap (λ (k : ℕ). map f (reverse w) ++ drop k buffer) (length-order w n e)
+
+-- ---- no path
+
+-- not well formed
+pub closed-not : (s : List ℕ) (room : ℕ) → survey s ≡ NotWellFormed → closingOn s room ≡ refused 7
+unfolding closingOn
+closed-not s room e = rw (survey-no s e)
+
+-- no row scores
+pub closed-nothing : (s : List ℕ) (room : ℕ) {rows used : ℕ} {p : Predecessor} → survey s ≡ WellFormed rows used p → p ≡ Nothing → closingOn s room ≡ gave nothing
+unfolding closingOn closing
+closed-nothing s room {rows} {used} e n =
+    let r = survey-rows s rows used Nothing (rw n at e) in
+    rw (r .reads, latest-none (r .rows) (r .latest), le-leb 0 room (omega arith))
+
+-- ---- the last scoring row
+
+latest-scores : (rs : List Row) (p : Row) → predecessor rs ≡ some p → T (scores p)
+unfolding predecessor
+latest-scores [] p e = some-none (sym e)
+latest-scores (r ∷ rs) p e = go (scores r) refl (latest-scores rs p) e
+  where
+    go : (b : Bool) → scores r ≡ b → (predecessor rs ≡ some p → T (scores p)) → cond b (some r) (predecessor rs) ≡ some p → T (scores p)
+    go true q ih k = let same : r ≡ p = cc in subst (λ (x : Row). T (scores x)) same (taken q)
+    go false q ih k = ih k
+
+pub last-found : {s : List ℕ} {rows used : ℕ} {p : Predecessor} {place row count : ℕ} → survey s ≡ WellFormed rows used p → p ≡ At place row count → Scoring s rows used place count
+last-found {row = row} e f = record { row = row; found = rw f at e }
+
+-- where the walk starts
+abbrev pub begin : ℕ → ℕ → Previous → Back
+begin rows used best = record { rows = rows; end = used; candidate = best .candidate; pairs = 0 }
+
+module _ (s : List ℕ) (rows used place count : ℕ) (h : Scoring s rows used place count) where
+  surveyed : Surveyed s rows used (At place (h .row) count)
+  surveyed = survey-rows s rows used (At place (h .row) count) (h .found)
+
+  same : standing s ≡ surveyed .rows
+  same = ap rowsRead (surveyed .reads)
+
+  reads : readJournal s ≡ some (standing s)
+  reads = surveyed .reads ∙ ap some (sym same)
+
+  last : Latest (standing s) place (h .row) count
+  last = latest-some (standing s) place (h .row) count (ap latestOf same ∙ surveyed .latest)
+
+  obeys : Obey (last .latest ∷ last .earlier)
+  obeys = row-obeys s (standing s) reads (last .after) (last .latest) (last .earlier) (last .stands)
+
+  long : place + length (recordOf (last .latest)) ≤ length s
+  long = omega (arith, last .placed, row-inside s (standing s) reads (last .after) (last .latest) (last .earlier) (last .stands))
+
+  pub last-inside : place ≤ length s
+  last-inside = omega (arith, long)
+
+  last-row : readRow (drop place s) ≡ last .latest
+  last-row = ap (λ (k : ℕ). readRow (drop k s)) (last .placed) ∙ row-at s (standing s) reads (last .after) (last .latest) (last .earlier) (last .stands)
+
+  pub last-stands : RecordStands (drop place s) count
+  last-stands = record {
+    many = ap size last-row ∙ sym (last .many);
+    room = rw (length-drop place s) (omega (arith, long, last .many, obey-room (last .latest) (last .earlier) obeys));
+  }
+
+  all-rows : firstRows s rows ≡ standing s
+  all-rows = ap (firstRows s) (sym (surveyed .counted) ∙ ap length (sym same)) ∙ first-all s
+
+  module _ {best : Previous} (e : best ≡ previousOf (bestOf (readRow (drop place s)))) where
+    is-best : best ≡ previousOf (bestOf (last .latest))
+    is-best = e ∙ ap (λ (r : Row). previousOf (bestOf r)) last-row
+
+    pub begin-reached : Reached s (begin rows used best)
+    begin-reached = record {
+      reads = reads;
+      within = omega (arith, surveyed .counted, ap length same);
+      placed = rw all-rows (sym (surveyed .ends) ∙ used-well s (standing s) (formed s (standing s) reads));
+      enters = λ _. rw (all-rows, last .is, is-best) (best-below (last .latest) (obey-low (last .latest) (last .earlier) obeys) (latest-scores (standing s) (last .latest) (last .is)));
+    }
+
+    closing-is : closing (standing s) ≡ path (reverse (pathFrom s (begin rows used best))) (best .score)
+    unfolding closing
+    closing-is = rw (last .is, all-rows, is-best)
+
+    closed-by : (room : ℕ) → closingOn s room ≡ cond (leb (length (reverse (pathFrom s (begin rows used best)))) room) (gave (path (reverse (pathFrom s (begin rows used best))) (best .score))) (refused 15)
+    unfolding closingOn
+    closed-by room = ap (closeRead room) reads ∙ ap (λ (c : Closed). cond (leb (pathLength c) room) (gave c) (refused 15)) closing-is
+
+    -- n pairs into so much room
+    module _ (room n : ℕ) (q : n ≡ 0 + length (pathFrom s (begin rows used best))) where
+      pub closed-full : room < n → closingOn s room ≡ refused 15
+      closed-full l =
+          let more : room < length (reverse (pathFrom s (begin rows used best))) = rw length-reverse (omega arith) in
+          closed-by room ∙ rw (lt-leb _ _ more)
+
+      module _ (l : n ≤ room) where
+        closed-done : closingOn s room ≡ gave (path (reverse (pathFrom s (begin rows used best))) (best .score))
+        closed-done =
+            let fewer : length (reverse (pathFrom s (begin rows used best))) ≤ room = rw length-reverse (omega arith) in
+            closed-by room ∙ rw (le-leb _ _ fewer)
+
+        closed-stored : (f : Entry) (buffer : List ℕ) {buffer′ : List ℕ} → buffer′ ≡ column f (pathFrom s (begin rows used best)) n buffer → buffer′ ≡ stored f (closingOn s room) buffer
+        unfolding stored
+        closed-stored f buffer k = rw closed-done (k ∙ column-order f (pathFrom s (begin rows used best)) n buffer q)
+
+        pub closed-path : (a b : List ℕ) {a′ b′ : List ℕ} → a′ ≡ column rowOf (pathFrom s (begin rows used best)) n a → b′ ≡ column candidateOf (pathFrom s (begin rows used best)) n b
+            → (Path (best .score) n ≡ answered (closingOn s room)) × ((a′ ≡ stored rowOf (closingOn s room) a) × (b′ ≡ stored candidateOf (closingOn s room) b))
+        unfolding answered
+        closed-path a b k m =
+            let answer : Path (best .score) n ≡ answered (closingOn s room) = rw closed-done (ap (Path (best .score)) (length-order (pathFrom s (begin rows used best)) n q)) in
+            (answer, (closed-stored rowOf a k, closed-stored candidateOf b m))

@@ -1,0 +1,5 @@
+-- Laws of the definitions of `specs/`.
+pub mod Records
+pub mod Best
+pub mod Steps
+pub mod Closing

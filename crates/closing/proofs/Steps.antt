@@ -1,0 +1,329 @@
+-- The walk back along the parents: what stands at each of its places, and what a step and its store leave. Assumes nothing.
+use Prim.Native.Nat.{ℕ, zero, suc, _+_, _-_, _*_, _<_, _≤_}
+use native.Mathlib.Omega.{arith}
+use native.Mathlib.Nat.{le-refl}
+use native.Mathlib.Numerals.{add-one}
+use mathlib.Core.Path.{_≡_, refl, sym, ap, _∙_, subst}
+use mathlib.Core.Bool.{Bool, true, false, _||_, cond}
+use mathlib.Core.List.{List, [], _∷_, map, reverseAux}
+use mathlib.Core.Option.{Option, none, some}
+use borrow.Author.Tests.{lt-ltb, le-ltb, ne-eqb}
+use lib.Dec.{T, ltb, eqb, ltb→lt, eqb→eq}
+use lib.ListN.{length, getD, drop, set, length-append, length-drop, length-set, drop-of-length-le}
+use lib.Seq.{drop-cons, drop-set-lt, getD-set-same}
+use lib.Ieee.{Float, inf, fin, nan, le}
+use lib.Ieee.Fits.{and-r}
+use Rattle.binary64.specs.Values.{pzero}
+use Rattle.binary64.specs.Ranges.{inRange}
+use Rattle.binary64.proofs.Order.{taken}
+use Rattle.journal.specs.Row.{Cell, Row, noParent, noCell, size, cellOf, scoreOf, scores, predecessor, sizeOf, beforeOf}
+use Rattle.journal.specs.Ranges.{candidateLimit, rowLimit, lowestScore, parentOk, scoreOk, cellOk}
+use Rattle.journal.specs.Record.{recordOf, recordLength, readRow}
+use Rattle.journal.specs.Journal.{words, readJournal}
+use Rattle.journal.specs.WellFormed.{Obey}
+use Rattle.journal.proofs.Lists.{all-at, all-each, each-at, each-intro}
+use Rattle.journal.proofs.Rules.{CellRules, cell-rules, row-rules}
+use Rattle.journal.proofs.Reading.{length-record}
+use Rattle.journal.proofs.Ends.{formed, back, Ended, ended-room, ended-turn}
+use Rattle.journal.proofs.Places.{row-obeys, row-at, row-inside}
+use Rattle.rows.specs.Scoring.{CandidateStands}
+use Rattle.decoder.specs.Closing.{Pairs, follow}
+use Rattle.closing.specs.Walk.{RowStands, standing, firstRows, Reached, Onward, pathFrom, over, entered, Entry, column}
+use Rattle.closing.specs.declared.walk.Back.{Back}
+use Rattle.closing.proofs.Records.{row-candidate}
+
+-- ---- a row that obeys the rules
+
+or-false : (b : Bool) → b || false ≡ b
+or-false true = refl
+or-false false = refl
+
+ranged : (n : ℕ) (x : Float) → T (inRange (lowestScore n) pzero x) → T (le x pzero)
+unfolding inRange
+ranged n x k = and-r (le (lowestScore n) x) (le x pzero) k
+
+score-low : (n : ℕ) (x : Float) → T (scoreOk n x) → T (le x pzero)
+score-low n nan k = ranged n nan (unfold scoreOk in k)
+score-low n (inf true) k = unfold le in tt
+score-low n (inf false) k = ranged n (inf false) (unfold scoreOk in k)
+score-low n (fin s m e) k = ranged n (fin s m e) (unfold scoreOk in k)
+
+module _ (r : Row) (rs : List Row) (o : Obey (r ∷ rs)) where
+  rules : (i : ℕ) → i < size r → CellRules (r .before) (length rs) (cellOf r i)
+  rules i h =
+      cell-rules (r .before) (length rs) (cellOf r i)
+      (all-at (cellOk (r .before) (length rs)) (r .cells) i noCell (row-rules (sizeOf (predecessor rs)) (length rs) r (o .0 .1) .cells) h)
+
+  -- no score is above 0
+  pub obey-low : (i : ℕ) → T (le (scoreOf r i) pzero)
+  obey-low i =
+      each-at (λ (c : Cell). T (le (c .score) pzero)) (r .cells) i noCell
+      (each-intro (λ (c : Cell). T (le (c .score) pzero)) (r .cells) noCell (λ k l. score-low (length rs) (cellOf r k .score) (rules k l .score))) (unfold le in tt)
+
+  -- its record holds its candidates
+  pub obey-room : 1 + 7 * size r ≤ length (recordOf r)
+  unfolding recordLength
+  obey-room = omega (arith, length-record r (o .0 .0 .number))
+
+  -- a parent is a candidate of the latest earlier row that scores, or none
+  pub obey-parent : (i : ℕ) → i < size r → (cellOf r i .parent ≡ noParent → ⊥) → cellOf r i .parent < sizeOf (predecessor rs)
+  obey-parent i h n =
+      let before = row-rules (sizeOf (predecessor rs)) (length rs) r (o .0 .1) .before in
+      let some-cells : eqb (size r) 0 ≡ false = ne-eqb (size r) 0 (λ (e : size r ≡ 0). omega arith) in
+      let all-before : r .before ≡ sizeOf (predecessor rs) = before ∙ rw some-cells in
+      rw all-before at (below (r .before) (cellOf r i .parent) n (rules i h .parent))
+    where
+      below : (p k : ℕ) → (k ≡ noParent → ⊥) → T (parentOk p k) → k < p
+      below p k n t = ltb→lt k p (subst T (ap (λ (b : Bool). ltb k p || b) (ne-eqb k noParent n) ∙ or-false (ltb k p)) t)
+
+-- ---- the latest row that scores
+
+latest-is : (r : Row) (rs : List Row) → predecessor (r ∷ rs) ≡ cond (scores r) (some r) (predecessor rs)
+unfolding predecessor
+latest-is r rs = refl
+
+drop-stored : (l : List ℕ) (m x : ℕ) → m < length l → drop m (set l m x) ≡ x ∷ drop (suc m) l
+drop-stored l m x h =
+    let k : m < length (set l m x) = simp length-set h in
+    drop-cons (set l m x) m 0 k ∙ rw (getD-set-same l m x 0 h, drop-set-lt (suc m) l m x (omega arith))
+
+drop-length : {A : Type 0} (l : List A) → drop (length l) l ≡ []
+drop-length l = drop-of-length-le l (le-refl (length l))
+
+-- at most so many
+pub reached-few : (s : List ℕ) (b : Back) → Reached s b → b .pairs + b .rows ≤ rowLimit
+reached-few s b h = omega (arith, h .within, formed s (standing s) (h .reads) .1)
+
+-- ---- the rows that are left
+
+noRow : Row
+noRow = record { cells = []; before = 0; distances = [] }
+
+pub first-length : (s : List ℕ) (n : ℕ) → n ≤ length (standing s) → length (firstRows s n) ≡ n
+first-length s n h = length-drop (length (standing s) - n) (standing s) ∙ omega arith
+
+pub first-all : (s : List ℕ) → firstRows s (length (standing s)) ≡ standing s
+first-all s =
+    let none-past : length (standing s) - length (standing s) ≡ 0 = omega arith in
+    ap (λ (k : ℕ). drop k (standing s)) none-past
+
+module _ (s : List ℕ) (b : Back) (h : Reached s b) (left : 0 < b .rows) where
+  passed : ℕ
+  passed = length (standing s) - b .rows
+
+  pub here : Row
+  unfolding passed
+  here = getD (standing s) passed noRow
+
+  pub earlier : List Row
+  earlier = firstRows s (b .rows - 1)
+
+  split-at : drop passed (standing s) ≡ here ∷ earlier
+  unfolding passed here earlier
+  split-at =
+      let next : suc (length (standing s) - b .rows) ≡ length (standing s) - (b .rows - 1) = omega (arith, h .within) in
+      drop-cons (standing s) (length (standing s) - b .rows) noRow (omega (arith, h .within)) ∙ ap (λ (k : ℕ). here ∷ drop k (standing s)) next
+
+  pub split : firstRows s (b .rows) ≡ here ∷ earlier
+  unfolding passed
+  split = split-at
+
+  pub many : length earlier ≡ b .rows - 1
+  unfolding earlier
+  many = first-length s (b .rows - 1) (omega (arith, h .within))
+
+  ended : Ended s (length (standing s)) passed (b .end)
+  unfolding passed
+  ended = record { stand = record { rows = standing s; reads = h .reads; enough = le-refl (length (standing s)) }; placed = h .placed }
+
+  more : passed < length (standing s)
+  unfolding passed
+  more = omega (arith, h .within)
+
+  pub step-room : (1 ≤ b .end) × (b .end ≤ length s) × (back s (b .end) ≤ b .end)
+  step-room = ended-room s (length (standing s)) passed (b .end) ended more
+
+  pub step-place : b .end - back s (b .end) ≡ suc (length (words earlier))
+  unfolding passed earlier
+  step-place =
+      let turn = ended-turn s (length (standing s)) passed (b .end) ended more in
+      let same : turn .stand .rows ≡ standing s = cc (turn .stand .reads, h .reads) in
+      let next : passed + 1 ≡ length (standing s) - (b .rows - 1) = omega (arith, h .within) in
+      turn .placed ∙ ap (λ (rs : List Row). suc (length (words (drop (passed + 1) rs)))) same ∙ ap (λ (k : ℕ). suc (length (words (drop k (standing s))))) next
+
+  pub obeys : Obey (here ∷ earlier)
+  obeys = row-obeys s (standing s) (h .reads) passed here earlier split-at
+
+  pub step-row : readRow (drop (b .end - back s (b .end)) s) ≡ here
+  step-row = rw step-place (row-at s (standing s) (h .reads) passed here earlier split-at)
+
+  pub step-stands : RowStands (drop (b .end - back s (b .end)) s)
+  step-stands = record { room = room; score = λ i. rw step-row (obey-low here earlier obeys i) }
+    where
+      room : 1 + 7 * size (readRow (drop (b .end - back s (b .end)) s)) ≤ length (drop (b .end - back s (b .end)) s)
+      room =
+          rw (step-row, length-drop (b .end - back s (b .end)) s)
+          (omega (arith, step-place, obey-room here earlier obeys, row-inside s (standing s) (h .reads) passed here earlier split-at))
+
+  -- ---- over its record
+
+  -- what is left past it, with this candidate and so many pairs
+  abbrev past : ℕ → ℕ → Back
+  past candidate pairs = record { rows = length earlier; end = suc (length (words earlier)); candidate = candidate; pairs = pairs }
+
+  module _ (onward : b .candidate ≡ noParent → ⊥) where
+    module _ (t : scores here ≡ true) where
+      over-yes : over (firstRows s (b .rows)) b ≡ past (cellOf here (b .candidate) .parent) (b .pairs + 1)
+      unfolding over
+      over-yes = ap (λ (rs : List Row). over rs b) split ∙ rw t
+
+      follow-yes : pathFrom s b ≡ (length earlier, b .candidate) ∷ follow earlier (cellOf here (b .candidate) .parent)
+      unfolding follow
+      follow-yes = ap (λ (rs : List Row). follow rs (b .candidate)) split ∙ rw (ne-eqb (b .candidate) noParent onward, t)
+
+      inside : b .candidate < size here
+      inside = rw (split, latest-is here earlier, t) at (h .enters onward)
+
+    module _ (t : scores here ≡ false) where
+      over-no : over (firstRows s (b .rows)) b ≡ past (b .candidate) (b .pairs)
+      unfolding over
+      over-no = ap (λ (rs : List Row). over rs b) split ∙ rw t
+
+      follow-no : pathFrom s b ≡ follow earlier (b .candidate)
+      unfolding follow
+      follow-no = ap (λ (rs : List Row). follow rs (b .candidate)) split ∙ rw (ne-eqb (b .candidate) noParent onward, t)
+
+    again : firstRows s (length earlier) ≡ earlier
+    unfolding earlier
+    again = ap (firstRows s) many
+
+    -- still at a place of the journal
+    reached-past : (candidate pairs : ℕ) → pairs ≤ b .pairs + 1 → ((candidate ≡ noParent → ⊥) → candidate < sizeOf (predecessor earlier)) → Reached s (past candidate pairs)
+    reached-past candidate pairs few enters = record {
+      reads = h .reads;
+      within = omega (arith, many, h .within);
+      placed = ap (λ (rs : List Row). suc (length (words rs))) (sym again);
+      enters = λ n. rw again (enters n);
+    }
+
+    pub over-reached : Reached s (over (firstRows s (b .rows)) b)
+    over-reached = go (scores here) refl
+      where
+        go : (t : Bool) → scores here ≡ t → Reached s (over (firstRows s (b .rows)) b)
+        go true t = rw (over-yes t) (reached-past (cellOf here (b .candidate) .parent) (b .pairs + 1) (omega arith) (obey-parent here earlier obeys (b .candidate) (inside t)))
+        go false t = rw (over-no t) (reached-past (b .candidate) (b .pairs) (omega arith) (λ n. rw (split, latest-is here earlier, t) at (h .enters n)))
+
+    -- as many pairs, found or still to come
+    pub over-counts : over (firstRows s (b .rows)) b .pairs + length (pathFrom s (over (firstRows s (b .rows)) b)) ≡ b .pairs + length (pathFrom s b)
+    over-counts = go (scores here) refl
+      where
+        go : (t : Bool) → scores here ≡ t → over (firstRows s (b .rows)) b .pairs + length (pathFrom s (over (firstRows s (b .rows)) b)) ≡ b .pairs + length (pathFrom s b)
+        go true t = rw (over-yes t, follow-yes t, again) (omega arith)
+        go false t = rw (over-no t, follow-no t, again)
+
+    -- the step in code
+    module _ {p : ℕ} where
+      pub step-yes : true ≡ scores (readRow (drop (b .end - back s (b .end)) s)) → p ≡ cellOf (readRow (drop (b .end - back s (b .end)) s)) (b .candidate) .parent
+          → _≡_ {A = Back} (record { rows = b .rows - 1; end = b .end - back s (b .end); candidate = p; pairs = b .pairs + 1 }) (over (firstRows s (b .rows)) b)
+      step-yes t e = sym (over-yes (ap scores (sym step-row) ∙ sym t) ∙ rw (many, ← step-place, e, step-row))
+
+    pub step-no : false ≡ scores (readRow (drop (b .end - back s (b .end)) s))
+        → _≡_ {A = Back} (record { rows = b .rows - 1; end = b .end - back s (b .end); candidate = b .candidate; pairs = b .pairs }) (over (firstRows s (b .rows)) b)
+    step-no t = sym (over-no (ap scores (sym step-row) ∙ sym t) ∙ rw (many, ← step-place))
+
+    pub step-candidate : true ≡ scores (readRow (drop (b .end - back s (b .end)) s)) → CandidateStands (drop (b .end - back s (b .end)) s) (b .candidate)
+    step-candidate t = row-candidate (drop (b .end - back s (b .end)) s) step-stands (b .candidate) (rw step-row (inside (ap scores (sym step-row) ∙ sym t)))
+
+    pub over-pairs : over (firstRows s (b .rows)) b .pairs ≤ b .pairs + 1
+    over-pairs = go (scores here) refl
+      where
+        go : (t : Bool) → scores here ≡ t → over (firstRows s (b .rows)) b .pairs ≤ b .pairs + 1
+        go true t = rw (over-yes t) (omega arith)
+        go false t = rw (over-no t) (omega arith)
+
+    pub over-rows : over (firstRows s (b .rows)) b .rows ≡ b .rows - 1
+    over-rows = go (scores here) refl
+      where
+        go : (t : Bool) → scores here ≡ t → over (firstRows s (b .rows)) b .rows ≡ b .rows - 1
+        go true t = rw (over-yes t) many
+        go false t = rw (over-no t) many
+
+    -- a column of the pairs, stored from the last entry down
+    pub over-column : (f : Entry) (n : ℕ) (buffer : List ℕ) (x : ℕ) → x ≡ f (over (firstRows s (b .rows)) b .rows, b .candidate) → b .pairs < n → n ≤ length buffer
+        → column f (pathFrom s (over (firstRows s (b .rows)) b)) (n - over (firstRows s (b .rows)) b .pairs) (entered b (over (firstRows s (b .rows)) b) n x buffer)
+        ≡ column f (pathFrom s b) (n - b .pairs) buffer
+    unfolding column entered
+    over-column f n buffer x e l room = go (scores here) refl
+      where
+        to : ℕ
+        to = n - (b .pairs + 1)
+
+        go : (t : Bool) → scores here ≡ t
+            → reverseAux (map f (pathFrom s (over (firstRows s (b .rows)) b))) (drop (n - over (firstRows s (b .rows)) b .pairs) (cond (ltb (b .pairs) (over (firstRows s (b .rows)) b .pairs)) (set buffer (n - over (firstRows s (b .rows)) b .pairs) x) buffer))
+            ≡ reverseAux (map f (pathFrom s b)) (drop (n - b .pairs) buffer)
+        go true t =
+            let next : suc to ≡ n - b .pairs = omega arith in
+            let is : x ≡ f (length earlier, b .candidate) = rw (over-yes t) at e in
+            rw (over-yes t, follow-yes t, again, lt-ltb (b .pairs) (b .pairs + 1) (omega arith), drop-stored buffer to x (omega arith), next, is)
+        go false t = rw (over-no t, follow-no t, again, le-ltb (b .pairs) (b .pairs) (omega arith))
+
+-- ---- the end of the walk
+
+follow-none : (rs : List Row) → follow rs noParent ≡ []
+unfolding follow
+follow-none [] = refl
+follow-none (r ∷ rs) = refl
+
+module _ (s : List ℕ) (b : Back) where
+  pub path-stops : b .candidate ≡ noParent → pathFrom s b ≡ []
+  path-stops e = ap (follow (firstRows s (b .rows))) e ∙ follow-none (firstRows s (b .rows))
+
+  pub path-ends : b .rows ≡ 0 → pathFrom s b ≡ []
+  unfolding follow
+  path-ends e =
+      let all : length (standing s) - b .rows ≡ length (standing s) = omega arith in
+      rw (all, drop-length (standing s))
+
+  -- pairs still to come: there is a record to go over
+  pub path-onward : Reached s b → 0 < length (pathFrom s b) → Onward s b
+  path-onward h l = record { reached = h; left = some (b .rows) refl; parent = λ (e : b .candidate ≡ noParent). omega (arith, ap length (path-stops e)) }
+    where
+      some : (n : ℕ) → b .rows ≡ n → 0 < b .rows
+      some zero e = absurd (omega (arith, ap length (path-ends e)))
+      some (suc n) e = omega arith
+
+-- ---- storing the pairs
+
+entered-length : (b c : Back) (n x : ℕ) (buffer : List ℕ) → length (entered b c n x buffer) ≡ length buffer
+unfolding entered
+entered-length b c n x buffer = go (ltb (b .pairs) (c .pairs))
+  where
+    go : (t : Bool) → length (cond t (set buffer (n - c .pairs) x) buffer) ≡ length buffer
+    go true = length-set buffer (n - c .pairs) x
+    go false = refl
+
+-- n pairs, those found so far stored in a buffer from its entry n - 1 down
+pub record Column (s : List ℕ) (n : ℕ) (f : Entry) (whole : List ℕ) (long : ℕ) (b : Back) (buffer : List ℕ) : Type 0 where
+  pub same-length : length buffer ≡ long
+  pub is-stored : column f (pathFrom s b) (n - b .pairs) buffer ≡ whole
+
+pub column-start : (s : List ℕ) (n : ℕ) (f : Entry) (b : Back) (buffer : List ℕ) → b .pairs ≡ 0 → Column s n f (column f (pathFrom s b) n buffer) (length buffer) b buffer
+column-start s n f b buffer e =
+    let all : n - b .pairs ≡ n = omega arith in
+    record { same-length = refl; is-stored = ap (λ (k : ℕ). column f (pathFrom s b) k buffer) all }
+
+module _ {s : List ℕ} {n : ℕ} {f : Entry} {whole : List ℕ} {long : ℕ} {b : Back} {buffer : List ℕ} (c : Column s n f whole long b buffer) where
+  pub column-turn : Onward s b → b .pairs < n → n ≤ long → {r : Back} {x : ℕ} {buffer′ : List ℕ} → r ≡ over (firstRows s (b .rows)) b → x ≡ f (r .rows, b .candidate) → buffer′ ≡ entered b r n x buffer
+      → Column s n f whole long r buffer′
+  column-turn o l room {r} {x} {buffer′} e k q = record {
+    same-length = ap length q ∙ entered-length b r n x buffer ∙ c .same-length;
+    is-stored = rw (q, e) (over-column s b (o .reached) (o .left) (o .parent) f n buffer x (rw e at k) l (omega (arith, c .same-length)) ∙ c .is-stored);
+  }
+
+  pub column-end : b .pairs + length (pathFrom s b) ≡ n → n ≤ b .pairs → buffer ≡ whole
+  unfolding column
+  column-end e l = go (pathFrom s b) (omega arith) (c .is-stored)
+    where
+      go : (w : Pairs) → length w ≡ 0 → reverseAux (map f w) (drop (n - b .pairs) buffer) ≡ whole → buffer ≡ whole
+      go [] z h = let none-left : n - b .pairs ≡ 0 = omega arith in rw none-left at h
+      go (p ∷ w) z h = absurd (omega arith)

@@ -1,0 +1,3 @@
+-- What the contracts of `closing` speak of.
+pub mod Walk
+pub mod Close

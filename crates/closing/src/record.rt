@@ -1,0 +1,26 @@
+// A row's record at the head of some words: a candidate's parent, and whether the row scores.
+use journal::float::is_finite;
+use rows::previous::best_previous;
+ghost use mathlib.Core.Path.{_≡_};
+ghost use Rattle.journal.specs.Row.{cellOf, scores};
+ghost use Rattle.journal.specs.Record.{readRow};
+ghost use Rattle.rows.specs.Scoring.{CandidateStands};
+ghost use Rattle.closing.specs.Walk.{RowStands};
+
+// The parent of candidate i.
+pub fn parent_of(words: &[u32], i: usize) -> u32
+    requires { ⌜ CandidateStands (now words) i ⌝ }
+    ensures { λ r. ⌜ r ≡ cellOf (readRow (now (words .entry))) i .parent ⌝ }
+{
+    words[1 + 7 * i] / 2048 % 32
+}
+
+// Whether the row scores: its best score is finite.
+pub fn row_scores(words: &[u32]) -> bool
+    requires { ⌜ RowStands (now words) ⌝ }
+    ensures { λ r. ⌜ r ≡ scores (readRow (now (words .entry))) ⌝ }
+{
+    let count = (words[0] % 32) as usize;
+    let best = best_previous(words, count);
+    is_finite(best.score)
+}
