@@ -133,19 +133,3 @@ module _ (g : ℕ → Float) where
         go false e ih (inr l) = ih l
         go false e ih (inl q) = subst (λ (k : ℕ). T (le (g k) ((lastBest g n) .1))) (sym q)
             (lt→le (g n) ((lastBest g n) .1) (not-le→lt (g n) ((lastBest g n) .1) (num n) (lastBest-number n) (missed e)))
-
--- ---- the parent that the first best gives
-raise-parent : (b : Found) (n : ℕ) (s : Step) → (b .0 < n) ⊎ (b .0 ≡ noParent) → ((raise b n s) .0 < suc n) ⊎ ((raise b n s) .0 ≡ noParent)
-raise-parent b n Impossible (inl h) = inl (omega arith)
-raise-parent b n Impossible (inr h) = inr h
-raise-parent b n (Possible v) h = go (lt (b .1) v) h
-  where
-    go : (t : Bool) → (b .0 < n) ⊎ (b .0 ≡ noParent) → ((cond t (n, v) b) .0 < suc n) ⊎ ((cond t (n, v) b) .0 ≡ noParent)
-    go true k = inl (omega arith)
-    go false (inl k) = inl (omega arith)
-    go false (inr k) = inr k
-
-pub firstBest-parent : (g : ℕ → Step) (n : ℕ) → ((firstBest g n) .0 < n) ⊎ ((firstBest g n) .0 ≡ noParent)
-unfolding firstBest
-firstBest-parent g zero = inr refl
-firstBest-parent g (suc n) = raise-parent (firstBest g n) n (g n) (firstBest-parent g n)

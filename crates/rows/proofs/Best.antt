@@ -53,7 +53,16 @@ firstBest-narrow g n l = narrow n (firstBest g n) l (firstBest-parent g n)
 pub lastBest-narrow : (g : ℕ → Float) (n : ℕ) → n < 32 → lastBest g n .0 < 32
 lastBest-narrow g n l = narrow n (lastBest g n) l (lastBest-parent g n)
 
--- ---- the best previous, turn by turn
+-- ---- the best previous: which of two, and turn by turn
+
+module _ (b : Previous) (j : ℕ) (s : Float) where
+  pub later-taken : le (b .score) s ≡ true → _≡_ {A = Previous} (record { candidate = j; score = s }) (laterBest b j s)
+  unfolding laterBest
+  later-taken e = rw e
+
+  pub later-left : le (b .score) s ≡ false → b ≡ laterBest b j s
+  unfolding laterBest
+  later-left e = rw e
 
 module _ (g : ℕ → Float) where
   pub previous-none : (s : Float) → s ≡ inf true → _≡_ {A = Previous} (record { candidate = 31; score = s }) (previousOf (lastBest g 0))
@@ -74,7 +83,20 @@ module _ (g : ℕ → Float) where
   pub previous-done : (k n : ℕ) {b : Previous} → b ≡ previousOf (lastBest g k) → k ≡ n → b ≡ previousOf (lastBest g n)
   previous-done k n i e = rw (← e) i
 
--- ---- the best offer, turn by turn
+-- ---- the best offer: which of two, and turn by turn
+
+module _ (b : Offers) (j : ℕ) {s : Step} where
+  pub offer-taken : {v : Float} → s ≡ Possible v → lt (b .score) v ≡ true → _≡_ {A = Offers} (record { parent = j; score = v; possible = true }) (betterOffer b j s)
+  unfolding betterOffer
+  offer-taken e h = rw (e, h)
+
+  pub offer-left : {v : Float} → s ≡ Possible v → lt (b .score) v ≡ false → _≡_ {A = Offers} (record { parent = b .parent; score = b .score; possible = true }) (betterOffer b j s)
+  unfolding betterOffer
+  offer-left e h = rw (e, h)
+
+  pub offer-impossible : s ≡ Impossible → b ≡ betterOffer b j s
+  unfolding betterOffer
+  offer-impossible e = rw e
 
 or-false : (b : Bool) → b ≡ b || false
 or-false true = refl

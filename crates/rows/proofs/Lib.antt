@@ -3,4 +3,5 @@ pub mod Best
 pub mod Records
 pub mod Through
 pub mod Filled
+pub mod Offered
 pub mod Rows

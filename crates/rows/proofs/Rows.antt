@@ -1,81 +1,25 @@
 -- Parents and scores that were stored make the row of the fix, in each of its three cases. Assumes nothing.
-use Prim.Native.Nat.{ℕ, zero, suc, _+_, _*_, _<_}
-use native.Mathlib.Nat.{zero-mul}
-use native.Mathlib.Numerals.{add-one}
+use Prim.Native.Nat.{ℕ, zero, suc, _<_}
 use native.Mathlib.Omega.{arith}
-use mathlib.Core.Path.{_≡_, refl, sym, ap, _∙_, fun-ext}
-use mathlib.Core.Bool.{Bool, true, false, not, _||_}
+use mathlib.Core.Path.{_≡_, refl, sym, ap, _∙_}
+use mathlib.Core.Bool.{Bool, true, false, not}
 use mathlib.Core.List.{List}
 use mathlib.Core.Option.{Option, some}
 use lib.ListN.{length, getD}
 use lib.Seq.{ext-getD}
 use lib.Ieee.{Float, nan}
-use borrow.Author.Tests.{ne-eqb}
-use Rattle.lists.specs.Loops.{any}
-use Rattle.lists.proofs.Loops.{any-none}
-use Rattle.binary64.specs.Values.{pzero}
-use Rattle.journal.specs.Row.{Fix, Cell, Row, Given, noParent, noCandidate, noCell, count, candidateOf, size, scoreOf, sizeOf, beforeOf, candidateGiven, fixGiven, cellsGiven, rowGiven}
+use Rattle.journal.specs.Row.{Fix, Cell, Row, Given, noParent, noCandidate, noCell, candidateOf, size, scoreOf, sizeOf, beforeOf, fixGiven, cellsGiven, rowGiven}
 use Rattle.journal.specs.Record.{readRow}
 use Rattle.journal.specs.declared.record.Candidate.{Candidate}
 use Rattle.journal.proofs.Lists.{length-number, getD-number}
 use Rattle.journal.proofs.Stores.{cell-given, length-given}
-use Rattle.transition.specs.declared.step.Step.{Step}
-use Rattle.rows.specs.Row.{StepScore, Found, firstBest, bestOf, floored, isPossible, offer, broken, scored, row}
-use Rattle.rows.specs.Scoring.{RecordStands, predecessorIn, previousOf, offerTo, bestOffer, brokenScore, Filled, RowScored}
+use Rattle.rows.specs.Row.{StepScore, Found, bestOf, floored, offer, broken, scored, row}
+use Rattle.rows.specs.Scoring.{RecordStands, predecessorIn, previousOf, brokenScore, Filled, Offered, RowScored}
 use Rattle.rows.specs.declared.previous.Previous.{Previous}
-use Rattle.rows.specs.declared.offers.Offers.{Offers}
 use Rattle.rows.proofs.Best.{firstBest-narrow, lastBest-narrow}
 use Rattle.rows.proofs.Records.{size-narrow, predecessor-some}
-
--- ---- own candidates
-
-module _ (g : Given) where
-  pub count-given : count (fixGiven g) ≡ length (g .elements)
-  unfolding fixGiven
-  count-given = length-number (candidateGiven g) 0 (g .elements)
-
-  pub own-given : (i : ℕ) → i < length (g .elements) → candidateOf (fixGiven g) i ≡ candidateGiven g i (getD (g .elements) i 0)
-  unfolding fixGiven
-  own-given i h = getD-number (candidateGiven g) (g .elements) i noCandidate 0 h
-
-  pub offer-given : (step : StepScore) (p : Row) (i j : ℕ) → i < length (g .elements)
-      → offerTo step p (candidateGiven g i (getD (g .elements) i 0)) (getD (g .distances) (j * length (g .elements) + i) pzero) j ≡ offer step p (fixGiven g) i j
-  unfolding offerTo offer
-  offer-given step p i j h = rw (own-given i h, count-given) (unfold fixGiven in refl)
-
--- as many distances, though a row without candidates counts no predecessor's
-pub pairs-many : (n before : ℕ) → n * beforeOf before n ≡ n * before
-pairs-many zero before = rw (zero-mul 0, zero-mul before)
-pairs-many (suc n) before = rw (ne-eqb (suc n) 0 (λ (e : suc n ≡ 0). omega arith))
-
--- what was found from own candidate i and its distances is the best offer to it
-module _ (step : StepScore) (g : Given) (p : Row) (before i : ℕ) (h : i < length (g .elements)) {b : Candidate} {r : Offers} (own : b ≡ candidateGiven g i (getD (g .elements) i 0))
-    (best : r ≡ bestOffer (λ j. offerTo step p b (getD (g .distances) (j * length (g .elements) + i) pzero) j) before) where
-  best-given : r ≡ bestOffer (offer step p (fixGiven g) i) before
-  best-given = best ∙ rw own (ap (λ (o : ℕ → Step). bestOffer o before) (fun-ext (λ j. offer-given g step p i j h)))
-
-  pub best-parent : r .parent ≡ firstBest (offer step p (fixGiven g) i) before .0
-  unfolding bestOffer
-  best-parent = ap (λ (o : Offers). o .parent) best-given
-
-  pub best-score : r .score ≡ firstBest (offer step p (fixGiven g) i) before .1
-  unfolding bestOffer
-  best-score = ap (λ (o : Offers). o .score) best-given
-
-  pub best-possible : r .possible ≡ any before (λ j. isPossible (offer step p (fixGiven g) i j))
-  unfolding bestOffer
-  best-possible = ap (λ (o : Offers). o .possible) best-given
-
--- whether an offer was possible to any own candidate so far, before, at and past turn k
-pub possible-none : (test : ℕ → Bool) → false ≡ any 0 test
-possible-none test = sym (any-none test)
-
-pub possible-turn : (k : ℕ) (test : ℕ → Bool) {before here now : Bool} → before ≡ any k test → here ≡ test k → now ≡ before || here → now ≡ any (k + 1) test
-unfolding any
-possible-turn k test b h e = rw (add-one, ← b, ← h) e
-
-pub possible-done : (k n : ℕ) (test : ℕ → Bool) {before : Bool} → before ≡ any k test → k ≡ n → before ≡ any n test
-possible-done k n test b e = rw (← e) b
+use Rattle.rows.proofs.Filled.{filled-over}
+use Rattle.rows.proofs.Offered.{count-given, own-given}
 
 -- ---- the row
 
@@ -146,25 +90,26 @@ module _ (step : StepScore) (g : Given) (words : List ℕ) (before : ℕ) (some-
   narrow : before < 32
   narrow = omega (arith, size-narrow words, stands .many)
 
-  module _ {possible : Bool} (offered : possible ≡ any (length (g .elements)) (λ i. any before (λ j. isPossible (offer step p f i j)))) where
+  module _ {possible : Bool} {parents₀ : List ℕ} {scores₀ : List Float} {parents : List ℕ} {scores : List Float}
+      (offered : Offered (length (g .elements)) step p f before possible parents₀ scores₀ parents scores) where
     broken-is : broken step p f ≡ not possible
     unfolding broken
-    broken-is = rw (offered, count-given g, stands .many)
+    broken-is = rw (offered .to-any, count-given g, stands .many)
 
-    module _ {parents₀ : List ℕ} {scores₀ : List Float} {parents : List ℕ} {scores : List Float} where
-      pub offers-scored : possible ≡ true → Filled (length (g .elements)) (λ i. firstBest (offer step p f i) before) parents₀ scores₀ parents scores
-          → RowScored step g words before parents₀ scores₀ parents scores
-      unfolding scored
-      offers-scored e filled =
-          row-scored step g words before filled many
-          (λ i h. rw (standing, broken-is, e, stands .many))
-          (λ i. firstBest-narrow (offer step p f i) before narrow)
+    -- a possible offer: the best ones stay
+    pub offers-scored : possible ≡ true → RowScored step g words before parents₀ scores₀ parents scores
+    unfolding scored
+    offers-scored e =
+        row-scored step g words before (offered .filled) many
+        (λ i h. rw (standing, broken-is, e, stands .many))
+        (λ i. firstBest-narrow (offer step p f i) before narrow)
 
-      pub broken-scored : possible ≡ false → (best : Previous) → best ≡ previousOf (bestOf p)
-          → Filled (length (g .elements)) (λ i. (best .candidate, brokenScore (best .score) (getD (g .rawLogs) i nan))) parents₀ scores₀ parents scores
-          → RowScored step g words before parents₀ scores₀ parents scores
-      unfolding scored brokenScore floored
-      broken-scored e best b filled =
-          row-scored step g words before filled many
-          (λ i h. rw (standing, broken-is, e, b, own-given g i h))
-          (λ i. rw b (lastBest-narrow (scoreOf p) (size p) (size-narrow words)))
+    -- none: each candidate is stored again, through the best previous
+    pub broken-scored : possible ≡ false → {best : Previous} {parents′ : List ℕ} {scores′ : List Float} → best ≡ previousOf (bestOf p)
+        → Filled (length (g .elements)) (λ i. (best .candidate, brokenScore (best .score) (getD (g .rawLogs) i nan))) parents scores parents′ scores′
+        → RowScored step g words before parents₀ scores₀ parents′ scores′
+    unfolding scored brokenScore floored
+    broken-scored e b filled =
+        row-scored step g words before (filled-over (offered .filled) filled) many
+        (λ i h. rw (standing, broken-is, e, b, own-given g i h))
+        (λ i. rw b (lastBest-narrow (scoreOf p) (size p) (size-narrow words)))

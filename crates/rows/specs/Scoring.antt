@@ -1,7 +1,7 @@
 -- The row of a fix as the code comes by it: the predecessor is read from its record, and parents and scores go into two slices.
 use Prim.Native.Nat.{ℕ, zero, suc, _+_, _*_, _<_, _≤_}
 use mathlib.Core.Path.{_≡_}
-use mathlib.Core.Bool.{true, cond}
+use mathlib.Core.Bool.{Bool, true, cond}
 use mathlib.Core.List.{List}
 use mathlib.Core.Option.{Option, none, some}
 use lib.ListN.{length, getD, drop}
@@ -9,12 +9,12 @@ use lib.Ieee.{Float, nan, lt, le}
 use Rattle.lists.specs.Loops.{any}
 use Rattle.routing.specs.Network.{Network, checked}
 use Rattle.routing.specs.declared.network.Checked.the-variants.{Accepted}
-use Rattle.journal.specs.Row.{Row, Given, size, cellOf, scoreOf, beforeOf, fixGiven, rowGiven}
+use Rattle.journal.specs.Row.{Fix, Row, Given, size, cellOf, scoreOf, beforeOf, fixGiven, rowGiven}
 use Rattle.journal.specs.Record.{readRow}
 use Rattle.journal.specs.declared.record.Candidate.{Candidate}
 use Rattle.transition.specs.declared.step.Step.{Step}
 use Rattle.transition.specs.declared.step.Step.the-variants.{Possible, Impossible}
-use Rattle.rows.specs.Row.{_⊕_, StepScore, Found, firstBest, breakScore, flooredLog, floored, through, isPossible, row}
+use Rattle.rows.specs.Row.{_⊕_, StepScore, Found, firstBest, breakScore, flooredLog, floored, through, isPossible, offer, row}
 use Rattle.rows.specs.declared.previous.Previous.{Previous}
 use Rattle.rows.specs.declared.offers.Offers.{Offers}
 
@@ -80,6 +80,11 @@ pub record Filled (n : ℕ) (found : ℕ → Found) (parents₀ : List ℕ) (sco
   pub score : (k : ℕ) → k < n → getD scores k nan ≡ found k .1
   pub parents-past : drop n parents ≡ drop n parents₀
   pub scores-past : drop n scores ≡ drop n scores₀
+
+-- after the offers of the predecessor's `before` candidates to the first n of the fix's: whether one was possible, and the best ones
+pub record Offered (n : ℕ) (step : StepScore) (p : Row) (f : Fix) (before : ℕ) (possible : Bool) (parents₀ : List ℕ) (scores₀ : List Float) (parents : List ℕ) (scores : List Float) : Type 0 where
+  pub to-any : possible ≡ any n (λ i. any before (λ j. isPossible (offer step p f i j)))
+  pub filled : Filled n (λ i. firstBest (offer step p f i) before) parents₀ scores₀ parents scores
 
 -- ---- scoring a row
 

@@ -25,7 +25,7 @@ pub fn floored_log(raw_log: f64) -> f64
     raw_log
 }
 
-// What candidate a of the predecessor, with its score, offers to own candidate b at their distance.
+// What candidate a of the predecessor offers to own candidate b: (previous + step) + floored log. The step is worked out for a finite previous score only.
 pub fn offer(
     lengths: &[f64],
     headings: &[f64],

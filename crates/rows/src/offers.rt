@@ -1,5 +1,6 @@
 // The best of the offers to an own candidate.
 use crate::offer::offer;
+use crate::previous::NO_PARENT;
 use crate::previous::candidate_of;
 use crate::previous::score_of;
 use binary64::minus_infinity;
@@ -17,7 +18,7 @@ ghost use Rattle.journal.specs.Record.{readRow};
 ghost use Rattle.transition.specs.Step.{transition};
 ghost use Rattle.rows.specs.Scoring.{CandidateStands, RecordKnown, offerTo, betterOffer, bestOffer};
 
-// The best offer so far, 31 and minus infinity for none, and whether one was possible.
+// The best offer so far, minus infinity for none, and whether one was possible.
 pub struct Offers {
     pub parent: u32,
     pub score: f64,
@@ -123,7 +124,7 @@ pub fn best_offer(
     ensures { λ r. ⌜ r ≡ bestOffer (λ j. offerTo (transition (networkOf (now (lengths .entry)) (now (headings .entry)) (now (flags .entry)) (now (from .entry)) (now (to .entry)) (now («from_side» .entry)) (now («to_side» .entry)) (now (forward .entry)) (now (backward .entry))) settings) (readRow (now (words .entry))) b (getD (now (distances .entry)) (j * count + i) pzero) j) before ⌝ }
 {
     let mut best = Offers {
-        parent: 31,
+        parent: NO_PARENT,
         score: minus_infinity(),
         possible: false,
     };

@@ -1,6 +1,7 @@
 // The row of a fix: parents and scores of its candidates, stored from the first entry of two lent slices on.
 use crate::offer::floored_log;
 use crate::offers::best_offer;
+use crate::previous::NO_PARENT;
 use crate::previous::Previous;
 use crate::previous::best_previous;
 use journal::record::Candidate;
@@ -10,14 +11,12 @@ ghost use mathlib.Core.Bool.{_||_};
 ghost use mathlib.Core.List.{[]};
 ghost use Prim.Native.Nat.{_<_, _≤_};
 ghost use lib.ListN.{length, getD};
-ghost use Rattle.routing.specs.Network.{networkOf};
 ghost use lib.Ieee.{nan};
-ghost use Rattle.lists.specs.Loops.{any};
+ghost use Rattle.routing.specs.Network.{networkOf};
 ghost use Rattle.journal.specs.Row.{noParent, candidateGiven, fixGiven, givenOf};
 ghost use Rattle.journal.specs.Record.{readRow};
 ghost use Rattle.transition.specs.Step.{transition};
-ghost use Rattle.rows.specs.Row.{firstBest, isPossible, offer};
-ghost use Rattle.rows.specs.Scoring.{brokenScore, Filled, Scorable, RowScored};
+ghost use Rattle.rows.specs.Scoring.{brokenScore, Filled, Offered, Scorable, RowScored};
 
 // The penalty of a row that no step leads to.
 const NO_TRANSITION_PENALTY: f64 = -23.0;
@@ -35,7 +34,7 @@ fn first_row(raw_logs: &[f64], parents: &mut [u32], scores: &mut [f64])
     ensures { λ _. ⌜ Filled (length (now («raw_logs» .entry))) (λ i. (noParent, getD (now («raw_logs» .entry)) i nan)) (now (parents .entry)) (now (scores .entry)) (now (parents .exit)) (now (scores .exit)) ⌝ }
 {
     for i in 0..raw_logs.len() {
-        parents[i] = 31;
+        parents[i] = NO_PARENT;
         scores[i] = first_score(raw_logs[i]);
     }
 }
@@ -93,7 +92,7 @@ fn offers_row(
 ) -> bool
     requires { ⌜ 0 < before ⌝ }
     requires { ⌜ Scorable (networkOf (now lengths) (now headings) (now flags) (now from) (now to) (now «from_side») (now «to_side») (now forward) (now backward)) (givenOf (now elements) (now intrinsics) (now near) (now «raw_logs») (now distances)) (now words) before (now parents) (now scores) ⌝ }
-    ensures { λ r. ⌜ r ≡ any (length (now (elements .entry))) (λ i. any before (λ j. isPossible (offer (transition (networkOf (now (lengths .entry)) (now (headings .entry)) (now (flags .entry)) (now (from .entry)) (now (to .entry)) (now («from_side» .entry)) (now («to_side» .entry)) (now (forward .entry)) (now (backward .entry))) settings) (readRow (now (words .entry))) (fixGiven (givenOf (now (elements .entry)) (now (intrinsics .entry)) (now (near .entry)) (now («raw_logs» .entry)) (now (distances .entry)))) i j))) ⌝ ∗ ⌜ Filled (length (now (elements .entry))) (λ i. firstBest (offer (transition (networkOf (now (lengths .entry)) (now (headings .entry)) (now (flags .entry)) (now (from .entry)) (now (to .entry)) (now («from_side» .entry)) (now («to_side» .entry)) (now (forward .entry)) (now (backward .entry))) settings) (readRow (now (words .entry))) (fixGiven (givenOf (now (elements .entry)) (now (intrinsics .entry)) (now (near .entry)) (now («raw_logs» .entry)) (now (distances .entry)))) i) before) (now (parents .entry)) (now (scores .entry)) (now (parents .exit)) (now (scores .exit)) ⌝ }
+    ensures { λ r. ⌜ Offered (length (now (elements .entry))) (transition (networkOf (now (lengths .entry)) (now (headings .entry)) (now (flags .entry)) (now (from .entry)) (now (to .entry)) (now («from_side» .entry)) (now («to_side» .entry)) (now (forward .entry)) (now (backward .entry))) settings) (readRow (now (words .entry))) (fixGiven (givenOf (now (elements .entry)) (now (intrinsics .entry)) (now (near .entry)) (now («raw_logs» .entry)) (now (distances .entry)))) before r (now (parents .entry)) (now (scores .entry)) (now (parents .exit)) (now (scores .exit)) ⌝ }
 {
     let mut possible = false;
     for i in 0..elements.len() {

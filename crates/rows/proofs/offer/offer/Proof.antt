@@ -33,7 +33,11 @@ enum-told c = search needs
 returns-2 : tie.Need-returns-2
 unfolding floored
 returns-2 c =
-    rw (c .floored-log .ensures) (through-possible _ _ _ (sym (c .before .before .before .before .before .before .is-finite .ensures) ∙ not-false _ (c .before .before .before .before .before .if1 .left)) _ (sym (c .before .before .before .before .compute-log-transition .ensures) ∙ c .before .before .step .given .1))
+    rw (c .floored-log .ensures)
+    (through-possible _ _ _
+    (sym (c .before .before .before .before .before .before .is-finite .ensures) ∙ not-false _ (c .before .before .before .before .before .if1 .left))
+    _
+    (sym (c .before .before .before .before .compute-log-transition .ensures) ∙ c .before .before .step .given .1))
 
 returns-3 : tie.Need-returns-3
 returns-3 c = through-impossible _ _ _ (sym (c .before .before .compute-log-transition .ensures) ∙ c .enum-told .given .1)

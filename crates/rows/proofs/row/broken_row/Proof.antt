@@ -1,10 +1,10 @@
 -- `rows::row::broken_row` meets its contract. Assumes nothing.
-use native.Mathlib.Omega.{arith}
-use borrow.Author.Needs.{needs}
 use mathlib.Core.Path.{_≡_, refl}
 use Prim.Native.Nat.{_≤_, _-_}
+use native.Mathlib.Omega.{arith}
 use lib.ListN.{length, getD}
 use lib.Ieee.{nan}
+use borrow.Author.Needs.{needs}
 use Rattle.rows.specs.Scoring.{Filled, brokenScore}
 use Rattle.rows.proofs.Filled.{filled-none, filled-turn, filled-done}
 use Rattle.rows.proofs.row.broken_row.Statement.{statement}

@@ -3,48 +3,26 @@ use mathlib.Core.Path.{_≡_, refl, _∙_}
 use Prim.Native.Nat.{_≤_, _-_}
 use native.Mathlib.Omega.{arith}
 use lib.ListN.{length}
-use Rattle.lists.specs.Loops.{any}
 use Rattle.routing.specs.Network.{networkOf}
-use Rattle.journal.specs.Row.{Row, Given, fixGiven, givenOf}
+use Rattle.journal.specs.Row.{fixGiven, givenOf}
 use Rattle.journal.specs.Record.{readRow}
 use Rattle.transition.specs.Step.{transition}
-use Rattle.rows.specs.Row.{StepScore, firstBest, isPossible, offer}
-use Rattle.rows.specs.Scoring.{Filled}
-use Rattle.rows.proofs.Filled.{filled-none, filled-turn, filled-done}
-use Rattle.rows.proofs.Rows.{pairs-many, best-parent, best-score, best-possible, possible-none, possible-turn, possible-done}
+use Rattle.rows.specs.Scoring.{Offered}
+use Rattle.rows.proofs.Offered.{pairs-many, offered-none, offered-turn, offered-done}
 use Rattle.rows.proofs.row.offers_row.Statement.{statement}
 use Rattle.rows.proofs.row.offers_row.Tie as tie
 
 abbrev Inv-loop : tie.InvT-loop
 Inv-loop lengths headings flags from to from-side to-side forward backward words before elements intrinsics near raw-logs distances parents₀ scores₀ settings possible₀ i₀ i-end parents scores possible i =
-    let offers = offer (transition (networkOf lengths headings flags from to from-side to-side forward backward) settings) (readRow words) (fixGiven (givenOf elements intrinsics near raw-logs distances)) in
     (i-end ≡ length elements)
     × (i ≤ i-end)
-    × (possible ≡ any i (λ k. any before (λ j. isPossible (offers k j))))
-    × Filled i (λ k. firstBest (offers k) before) parents₀ scores₀ parents scores
+    × Offered i (transition (networkOf lengths headings flags from to from-side to-side forward backward) settings) (readRow words) (fixGiven (givenOf elements intrinsics near raw-logs distances)) before possible parents₀ scores₀ parents scores
 
 abbrev μ-loop : tie.MeasureT-loop
 μ-loop lengths headings flags from to from-side to-side forward backward words before elements intrinsics near raw-logs distances parents₀ scores₀ settings possible₀ i₀ i-end parents scores possible i = i-end - i
 
--- ---- what the loop works on
-
-module _ (c : tie.Start Inv-loop μ-loop) where
-  abbrev given : Given
-  given = givenOf (c .args .elements .now) (c .args .intrinsics .now) (c .args .near .now) (c .args .raw-logs .now) (c .args .distances .now)
-
-  abbrev step : StepScore
-  step =
-      transition
-      (networkOf (c .args .lengths .now) (c .args .headings .now) (c .args .flags .now) (c .args .from .now) (c .args .to .now) (c .args .from-side .now) (c .args .to-side .now) (c .args .forward .now) (c .args .backward .now))
-      (c .args .settings)
-
-  abbrev previous : Row
-  previous = readRow (c .args .words .now)
-
--- ---- the needs
-
 loop-holds : tie.Need-loop-holds Inv-loop μ-loop
-loop-holds c = (refl, omega arith, possible-none _, filled-none _ _ _)
+loop-holds c = (refl, omega arith, offered-none _ _ _ _ _ _)
 
 own-candidate-requires : tie.Need-own-candidate-requires Inv-loop μ-loop
 own-candidate-requires c κs =
@@ -64,7 +42,7 @@ mul-parents c =
 slice-write-parents : tie.Need-slice-write-parents Inv-loop μ-loop
 slice-write-parents c =
     let start = c .before .before .before .before .before .before .before .before .before .before .before .before .before .before .before .before .before .before .before .before .before in
-    omega (arith, c .before .before .loop-test .taken, c .before .before .before .loop .inv .0, c .before .before .before .loop .inv .3 .parents-length, start .pre .1 .parents-long)
+    omega (arith, c .before .before .loop-test .taken, c .before .before .before .loop .inv .2 .filled .parents-length, start .pre .1 .parents-long)
 
 mul-scores : tie.Need-mul-scores Inv-loop μ-loop
 mul-scores c =
@@ -74,7 +52,7 @@ mul-scores c =
 slice-write-scores : tie.Need-slice-write-scores Inv-loop μ-loop
 slice-write-scores c =
     let start = c .before .before .before .before .before .before .before .before .before .before .before .before .before .before .before .before .before .before .before .before .before in
-    omega (arith, c .before .before .loop-test .taken, c .before .before .before .loop .inv .0, c .before .before .before .loop .inv .3 .scores-length, start .pre .1 .scores-long)
+    omega (arith, c .before .before .loop-test .taken, c .before .before .before .loop .inv .2 .filled .scores-length, start .pre .1 .scores-long)
 
 either-requires : tie.Need-either-requires Inv-loop μ-loop
 either-requires c κs = tt
@@ -90,28 +68,23 @@ loop-less c = omega (arith, c .before .before .before .loop-test .taken)
 loop-again : tie.Need-loop-again Inv-loop μ-loop
 loop-again c =
     let start = c .before .before .before .before .before .before .before .before .before .before .before .before .before .before .before .before .before .before .before .before .before .before in
-    let turn = c .before .before .before .before .loop in
-    let own = c .before .before .own-candidate .ensures in
-    let best = c .before .best-offer .ensures in
     let l = c .before .before .before .loop-test .taken in (
       refl,
       omega (arith, l),
-      possible-turn _ _ (turn .inv .2) (best-possible (step start) (given start) (previous start) _ _ l own best) (c .either .ensures),
-      filled-turn _ _ (turn .inv .3)
+      offered-turn _ _ _ _ _ l (c .before .before .own-candidate .ensures) (c .before .best-offer .ensures) (c .before .before .before .before .loop .inv .2)
           (omega (arith, l, start .pre .1 .parents-long))
           (omega (arith, l, start .pre .1 .scores-long))
-          (best-parent (step start) (given start) (previous start) _ _ l own best)
-          (best-score (step start) (given start) (previous start) _ _ l own best),
+          (c .either .ensures),
     )
 
 same-length : tie.Need-same-length Inv-loop μ-loop
-same-length c = c .before .loop .inv .3 .parents-length
+same-length c = c .before .loop .inv .2 .filled .parents-length
 
 same-length-2 : tie.Need-same-length-2 Inv-loop μ-loop
-same-length-2 c = c .before .loop .inv .3 .scores-length
+same-length-2 c = c .before .loop .inv .2 .filled .scores-length
 
 returns : tie.Need-returns Inv-loop μ-loop
-returns c = (possible-done _ _ _ (c .before .loop .inv .2) (omega arith), filled-done (c .before .loop .inv .3) (omega arith))
+returns c = offered-done (c .before .loop .inv .2) (omega arith)
 
 pub offers-row-spec : {M : Type 1} → statement M
 offers-row-spec =

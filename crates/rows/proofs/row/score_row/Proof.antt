@@ -1,7 +1,7 @@
 -- `rows::row::score_row` meets its contract. Assumes nothing.
 use mathlib.Core.Path.{_∙_}
 use native.Mathlib.Omega.{arith}
-use Rattle.rows.proofs.Filled.{filled-done, filled-over}
+use Rattle.rows.proofs.Filled.{filled-done}
 use Rattle.rows.proofs.Rows.{first-scored, offers-scored, broken-scored}
 use Rattle.rows.proofs.row.score_row.Statement.{statement}
 use Rattle.rows.proofs.row.score_row.Tie as tie
@@ -37,9 +37,7 @@ returns-2 : tie.Need-returns-2
 returns-2 c =
     let start = c .before .before .before .before .before .before .before .before .before .before .before .before .before .before .before .before .before .before .before .before .before .before .before .before .before .before in
     let if1 = c .before .before .before .before .before .before .before .before .if1 in
-    let offers-row = c .before .before .before .before .before .offers-row in
-    let stands = start .pre .predecessor (omega (arith, if1 .left)) .stands in
-    offers-scored _ _ _ _ (if1 .left) stands (offers-row .ensures .0) (c .if2 .taken) (offers-row .ensures .1)
+    offers-scored _ _ _ _ (if1 .left) (start .pre .predecessor (omega (arith, if1 .left)) .stands) (c .before .before .before .before .before .offers-row .ensures) (c .if2 .taken)
 
 best-previous-requires : tie.Need-best-previous-requires
 best-previous-requires c κs =
@@ -50,7 +48,7 @@ broken-row-requires : tie.Need-broken-row-requires
 broken-row-requires c κs =
     let start = c .before .before .before .before .before .before .before .before .before .before .before .before .before .before .before .before .before .before .before .before .before .before .before .before .before .before .before .before .before in
     let offers-row = c .before .before .before .before .before .before .before .before .offers-row in
-    (omega (arith, start .pre .rawLogs, start .pre .parents-long, offers-row .ensures .1 .parents-length), omega (arith, start .pre .rawLogs, start .pre .scores-long, offers-row .ensures .1 .scores-length))
+    (omega (arith, start .pre .rawLogs, start .pre .parents-long, offers-row .ensures .filled .parents-length), omega (arith, start .pre .rawLogs, start .pre .scores-long, offers-row .ensures .filled .scores-length))
 
 same-length-5 : tie.Need-same-length-5
 same-length-5 c = c .before .before .before .parents3 .given ∙ c .before .before .before .before .before .before .before .before .before .before .before .before .parents2 .given
@@ -62,14 +60,11 @@ returns-3 : tie.Need-returns-3
 returns-3 c =
     let start = c .before .before .before .before .before .before .before .before .before .before .before .before .before .before .before .before .before .before .before .before .before .before .before .before .before .before .before .before .before .before .before .before .before .before in
     let if1 = c .before .before .before .before .before .before .before .before .before .before .before .before .before .before .before .before .if1 in
-    let offers-row = c .before .before .before .before .before .before .before .before .before .before .before .before .before .offers-row in
     let stands = start .pre .predecessor (omega (arith, if1 .left)) .stands in
-    broken-scored _ _ _ _ (if1 .left) stands
-    (offers-row .ensures .0)
-    (c .before .before .before .before .before .before .before .before .if2 .left)
-    _
-    (c .before .before .before .before .before .before .before .best-previous .ensures)
-    (filled-over (offers-row .ensures .1) (filled-done (c .before .before .before .before .broken-row .ensures) (start .pre .rawLogs)))
+    let offered = c .before .before .before .before .before .before .before .before .before .before .before .before .before .offers-row .ensures in
+    let impossible = c .before .before .before .before .before .before .before .before .if2 .left in
+    let best = c .before .before .before .before .before .before .before .best-previous .ensures in
+    broken-scored _ _ _ _ (if1 .left) stands offered impossible best (filled-done (c .before .before .before .before .broken-row .ensures) (start .pre .rawLogs))
 
 pub score-row-spec : {M : Type 1} → statement M
 score-row-spec =
