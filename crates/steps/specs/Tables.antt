@@ -1,0 +1,85 @@
+-- The steps of the pairs in two tables by pair number: pair k is own candidate k / p with candidate k % p of the p of the predecessor.
+use Prim.Native.Nat.{ℕ, _+_, _*_, _/_, _%_, _<_, _≤_}
+use mathlib.Core.Path.{_≡_}
+use mathlib.Core.Bool.{Bool, true, false, cond}
+use mathlib.Core.List.{List, [], _∷_, _++_, map}
+use lib.ListN.{length, getD, set}
+use lib.Seq.{sets}
+use lib.Ieee.{Float, nan}
+use Rattle.lists.specs.Loops.{upTo}
+use Rattle.journal.specs.Row.{Row, size}
+use Rattle.transition.specs.declared.step.Step.{Step}
+use Rattle.transition.specs.declared.step.Step.the-variants.{Possible, Impossible}
+use Rattle.rows.specs.Row.{StepScore}
+use Rattle.steps.specs.Steps.{pairStep, entryOf}
+use Rattle.steps.specs.Listing.{Buffers}
+use Rattle.steps.specs.declared.store.Entry.{Entry}
+
+-- ---- the tables
+
+-- whether each step is possible, and its score
+pub record Tables : Type 0 where
+  pub possible : List Bool
+  pub scores : List Float
+
+abbrev pub tables : List Bool → List Float → Tables
+tables possible scores = record { possible = possible; scores = scores }
+
+abbrev pub stepAt : Tables → ℕ → Step
+stepAt t k = cond (getD (t .possible) k false) (Possible (getD (t .scores) k nan)) Impossible
+
+unfoldable pub putStep : Step → ℕ → Tables → Tables
+putStep (Possible v) k t = tables (set (t .possible) k true) (set (t .scores) k v)
+putStep Impossible k t = tables (set (t .possible) k false) (t .scores)
+
+pub record Wide (t : Tables) : Type 0 where
+  pub possible : length (t .possible) ≡ 256
+  pub scores : length (t .scores) ≡ 256
+
+-- the step of pair k between the rows p and r
+abbrev pub stepOfPair : StepScore → Row → Row → ℕ → Step
+stepOfPair step p r k = pairStep step p r (k / size p) (k % size p)
+
+-- the tables hold the first n of these steps
+pub record Holds (g : ℕ → Step) (n : ℕ) (t : Tables) : Type 0 where
+  pub wide : Wide t
+  pub step : (k : ℕ) → k < n → stepAt t k ≡ g k
+
+-- pair number k of those between rows of c and p candidates
+pub record PairBelow (c p k : ℕ) : Type 0 where
+  pub few : c ≤ 16
+  pub few-before : p ≤ 16
+  pub below : k < c * p
+
+-- how many of the first n are possible
+unfoldable pub countOf : List Bool → ℕ → ℕ
+countOf possible n = upTo n (λ k m. cond (getD possible k false) (m + 1) m) 0
+
+-- ---- the buffers
+
+-- the entries of the first n pairs
+unfoldable pub entriesOf : (ℕ → Step) → ℕ → ℕ → ℕ → ℕ → List Entry
+entriesOf g m row p n = upTo n (λ k l. l ++ entryOf m row (k / p) (k % p) (g k)) []
+
+-- entries stored from place `at` on
+unfoldable pub put : List Entry → ℕ → Buffers → Buffers
+put l at b =
+    record {
+      predecessorRows = sets (b .predecessorRows) at (map (λ (e : Entry). e .«predecessor_row») l);
+      predecessors = sets (b .predecessors) at (map (λ (e : Entry). e .predecessor) l);
+      rows = sets (b .rows) at (map (λ (e : Entry). e .row) l);
+      candidates = sets (b .candidates) at (map (λ (e : Entry). e .candidate) l);
+      steps = sets (b .steps) at (map (λ (e : Entry). e .step) l);
+    }
+
+abbrev pub entryIf : Bool → Entry → List Entry
+entryIf true e = e ∷ []
+entryIf false e = []
+
+-- n entries fit
+pub record Room (n : ℕ) (b : Buffers) : Type 0 where
+  pub predecessorRows : n ≤ length (b .predecessorRows)
+  pub predecessors : n ≤ length (b .predecessors)
+  pub rows : n ≤ length (b .rows)
+  pub candidates : n ≤ length (b .candidates)
+  pub steps : n ≤ length (b .steps)
