@@ -1,18 +1,17 @@
 -- What closing answers, from the walk. Assumes nothing.
-use Prim.Native.Nat.{ℕ, suc, _+_, _*_, _<_, _≤_}
+use Prim.Native.Nat.{ℕ, _+_, _<_, _≤_}
 use native.Mathlib.Omega.{arith}
 use mathlib.Core.Path.{_≡_, refl, sym, ap, _∙_, subst}
 use mathlib.Core.Bool.{Bool, true, false, cond}
 use mathlib.Core.List.{List, [], _∷_, _++_, map, reverse, reverseAux, reverseAux-eq}
-use mathlib.Core.Option.{Option, none, some}
+use mathlib.Core.Option.{some}
 use borrow.Author.Tests.{le-leb, lt-leb}
 use lib.Dec.{T, leb}
 use lib.ListN.{length, drop, length-drop, length-reverse}
-use lib.Ieee.{Float}
 use Rattle.binary64.proofs.Order.{taken}
-use Rattle.journal.specs.Row.{Row, size, scores, predecessor, sizeOf}
+use Rattle.journal.specs.Row.{Row, size, scores, predecessor}
 use Rattle.journal.specs.Record.{recordOf, readRow}
-use Rattle.journal.specs.Journal.{words, used, readJournal}
+use Rattle.journal.specs.Journal.{used, readJournal}
 use Rattle.journal.specs.WellFormed.{Obey}
 use Rattle.journal.specs.Check.{latestOf, survey}
 use Rattle.journal.specs.declared.check.Predecessor.{Predecessor}

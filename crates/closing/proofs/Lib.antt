@@ -2,4 +2,6 @@
 pub mod Records
 pub mod Best
 pub mod Steps
+pub mod Buffers
+pub mod Rows
 pub mod Closing

@@ -2,26 +2,24 @@
 use Prim.Native.Nat.{ℕ, zero, suc, _+_, _-_, _*_, _<_, _≤_}
 use native.Mathlib.Omega.{arith}
 use native.Mathlib.Nat.{le-refl}
-use native.Mathlib.Numerals.{add-one}
 use mathlib.Core.Path.{_≡_, refl, sym, ap, _∙_, subst}
 use mathlib.Core.Bool.{Bool, true, false, _||_, cond}
 use mathlib.Core.List.{List, [], _∷_, map, reverseAux}
-use mathlib.Core.Option.{Option, none, some}
+use mathlib.Core.Option.{none, some}
 use borrow.Author.Tests.{lt-ltb, le-ltb, ne-eqb}
-use lib.Dec.{T, ltb, eqb, ltb→lt, eqb→eq}
-use lib.ListN.{length, getD, drop, set, length-append, length-drop, length-set, drop-of-length-le}
+use lib.Dec.{T, ltb, eqb, ltb→lt}
+use lib.ListN.{length, getD, drop, set, length-drop, length-set, drop-of-length-le}
 use lib.Seq.{drop-cons, drop-set-lt, getD-set-same}
 use lib.Ieee.{Float, inf, fin, nan, le}
 use lib.Ieee.Fits.{and-r}
 use Rattle.binary64.specs.Values.{pzero}
 use Rattle.binary64.specs.Ranges.{inRange}
-use Rattle.binary64.proofs.Order.{taken}
-use Rattle.journal.specs.Row.{Cell, Row, noParent, noCell, size, cellOf, scoreOf, scores, predecessor, sizeOf, beforeOf}
-use Rattle.journal.specs.Ranges.{candidateLimit, rowLimit, lowestScore, parentOk, scoreOk, cellOk}
+use Rattle.journal.specs.Row.{Cell, Row, noParent, noCell, size, cellOf, scoreOf, scores, predecessor, sizeOf}
+use Rattle.journal.specs.Ranges.{rowLimit, lowestScore, parentOk, scoreOk, cellOk}
 use Rattle.journal.specs.Record.{recordOf, recordLength, readRow}
-use Rattle.journal.specs.Journal.{words, readJournal}
+use Rattle.journal.specs.Journal.{words}
 use Rattle.journal.specs.WellFormed.{Obey}
-use Rattle.journal.proofs.Lists.{all-at, all-each, each-at, each-intro}
+use Rattle.journal.proofs.Lists.{all-at, each-at, each-intro}
 use Rattle.journal.proofs.Rules.{CellRules, cell-rules, row-rules}
 use Rattle.journal.proofs.Reading.{length-record}
 use Rattle.journal.proofs.Ends.{formed, back, Ended, ended-room, ended-turn}
@@ -29,6 +27,7 @@ use Rattle.journal.proofs.Places.{row-obeys, row-at, row-inside}
 use Rattle.rows.specs.Scoring.{CandidateStands}
 use Rattle.decoder.specs.Closing.{Pairs, follow}
 use Rattle.closing.specs.Walk.{RowStands, standing, firstRows, Reached, Onward, pathFrom, over, entered, Entry, column}
+use Rattle.closing.specs.Row.{noRow}
 use Rattle.closing.specs.declared.walk.Back.{Back}
 use Rattle.closing.proofs.Records.{row-candidate}
 
@@ -95,9 +94,6 @@ pub reached-few : (s : List ℕ) (b : Back) → Reached s b → b .pairs + b .ro
 reached-few s b h = omega (arith, h .within, formed s (standing s) (h .reads) .1)
 
 -- ---- the rows that are left
-
-noRow : Row
-noRow = record { cells = []; before = 0; distances = [] }
 
 pub first-length : (s : List ℕ) (n : ℕ) → n ≤ length (standing s) → length (firstRows s n) ≡ n
 first-length s n h = length-drop (length (standing s) - n) (standing s) ∙ omega arith

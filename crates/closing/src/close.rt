@@ -1,4 +1,5 @@
 // Closing: the best path through the standing rows.
+use crate::buffer::least;
 use crate::walk::Back;
 use crate::walk::path_length;
 use crate::walk::write_path;
@@ -18,15 +19,6 @@ pub enum Closing {
     Nothing,
     Path(f64, usize),
     Refused(u32),
-}
-
-fn least(a: usize, b: usize) -> usize
-    ensures { λ r. ⌜ r ≡ min a b ⌝ }
-{
-    if a < b {
-        return a;
-    }
-    b
 }
 
 // From the last scoring row, of `count` candidates, whose record starts at a place of the journal.

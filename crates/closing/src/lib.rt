@@ -1,4 +1,6 @@
-// Closing, over a journal that was only read.
+// Calls on a journal that only read it: closing, and reading a row back.
+mod buffer;
 pub mod close;
 mod record;
+pub mod row;
 mod walk;

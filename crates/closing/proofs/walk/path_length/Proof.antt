@@ -1,9 +1,9 @@
 -- `closing::walk::path_length` meets its contract. Assumes nothing.
 use native.Mathlib.Omega.{arith}
-use mathlib.Core.Path.{_≡_, refl, sym, ap, _∙_, subst}
+use mathlib.Core.Path.{_≡_, refl, ap, _∙_}
 use Prim.Native.Nat.{_+_}
 use lib.ListN.{length}
-use Rattle.closing.specs.Walk.{Reached, Onward, pathFrom}
+use Rattle.closing.specs.Walk.{Reached, pathFrom}
 use Rattle.closing.proofs.Steps.{path-stops, path-ends, over-rows, over-reached, over-counts}
 use Rattle.closing.proofs.walk.path_length.Statement.{statement}
 use Rattle.closing.proofs.walk.path_length.Tie as tie

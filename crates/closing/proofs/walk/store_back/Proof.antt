@@ -1,10 +1,9 @@
 -- `closing::walk::store_back` meets its contract. Assumes nothing.
 use native.Mathlib.Omega.{arith}
-use mathlib.Core.Path.{_≡_, refl, ap, _∙_}
 use borrow.Author.Tests.{lt-ltb, le-ltb}
 use borrow.Author.Needs.{needs}
 use Rattle.closing.specs.Walk.{entered}
-use Rattle.closing.proofs.Steps.{over-pairs, over-rows, over-reached, reached-few}
+use Rattle.closing.proofs.Steps.{over-pairs, over-rows, reached-few}
 use Rattle.closing.proofs.walk.store_back.Statement.{statement}
 use Rattle.closing.proofs.walk.store_back.Tie as tie
 

@@ -1,6 +1,6 @@
 -- `closing::walk::write_path` meets its contract. Assumes nothing.
 use native.Mathlib.Omega.{arith}
-use mathlib.Core.Path.{_≡_, refl, sym, ap, _∙_}
+use mathlib.Core.Path.{_≡_, refl, _∙_}
 use Prim.Native.Nat.{_+_}
 use lib.ListN.{length}
 use Rattle.closing.specs.Walk.{Reached, pathFrom, column, rowOf, candidateOf}

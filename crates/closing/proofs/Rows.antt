@@ -1,0 +1,243 @@
+-- A row read from its record, field by field. Assumes nothing.
+use Prim.Native.Nat.{ℕ, zero, suc, _+_, _*_, _-_, _/_, _%_, _<_, _≤_, min}
+use native.Mathlib.Nat.{mul-zero, mul-suc, add-comm, div-one, mul-le-mul}
+use native.Mathlib.Omega.{arith}
+use mathlib.Core.Path.{_≡_, refl, sym, ap, _∙_}
+use mathlib.Core.List.{List, _∷_, map}
+use borrow.Author.Tests.{le-leb, lt-leb, lt-ltb, le-ltb}
+use lib.ListN.{length, getD, drop, length-map, List·getD-map, length-drop}
+use lib.Seq.{drop-drop, drop-cons}
+use lib.Ieee.{Float, nan}
+use Rattle.journal.specs.Row.{Cell, noCell, size, cellOf}
+use Rattle.journal.specs.Record.{floatAt, readDistance, readEach, recordLength, readRow}
+use Rattle.journal.specs.Journal.{words}
+use Rattle.journal.specs.Call.{Standing, endRead, endOf}
+use Rattle.journal.specs.Check.{survey}
+use Rattle.journal.specs.declared.check.Predecessor.{Predecessor}
+use Rattle.journal.specs.declared.check.Survey.the-variants.{NotWellFormed, WellFormed}
+use Rattle.journal.specs.WellFormed.{Obey}
+use Rattle.journal.proofs.Tests.{drop-float, cell-at}
+use Rattle.journal.proofs.Records.{row-size, row-cell}
+use Rattle.journal.proofs.Reading.{length-record}
+use Rattle.journal.proofs.Ends.{Surveyed, survey-rows, survey-no, struck-stand}
+use Rattle.journal.proofs.Places.{row-obeys, row-at, row-inside}
+use Rattle.closing.specs.Buffer.{entries, listed, FieldsStand, FloatsStand}
+use Rattle.closing.specs.Row.{Buffers, buffersOf, candidateRoom, gives, refused, fitted, noRow, rowNumber, readingRead, reading, rowAnswer, filled, RecordWhole}
+use Rattle.closing.specs.declared.row.RowRead.the-variants.{Row as RowAnswer}
+use Rattle.closing.proofs.Buffers.{entries-listed}
+
+-- ---- the fields of the row, by their places
+
+module _ {A : Type 0} (read : List ℕ → A) (m : ℕ) where
+  length-each : (n : ℕ) (ws : List ℕ) → length (readEach read m n ws) ≡ n
+  unfolding readEach
+  length-each zero ws = refl
+  length-each (suc n) ws = ap suc (length-each n (drop m ws))
+
+  getD-each : (n : ℕ) (ws : List ℕ) (i : ℕ) (d : A) → i < n → getD (readEach read m n ws) i d ≡ read (drop (m * i) ws)
+  unfolding readEach
+  getD-each zero ws i d h = absurd (omega arith)
+  getD-each (suc n) ws zero d h = ap (λ (k : ℕ). read (drop k ws)) (sym (mul-zero m))
+  getD-each (suc n) ws (suc i) d h =
+      let plus : m + m * i ≡ m * suc i = rw mul-suc (add-comm m (m * i)) in
+      getD-each n (drop m ws) i d (omega arith) ∙ ap read (drop-drop (m * i) m ws ∙ ap (λ (k : ℕ). drop k ws) plus)
+
+-- the smallest of the buffers, as the code finds it
+pub same-room : (b : Buffers) {m1 m2 m3 m4 m5 : ℕ} → m1 ≡ min (length (b .near)) (length (b .parents)) → m2 ≡ min (length (b .elements)) m1
+    → m3 ≡ min (length (b .rawLogs)) (length (b .scores)) → m4 ≡ min (length (b .intrinsics)) m3 → m5 ≡ min m2 m4 → m5 ≡ candidateRoom b
+same-room b e1 e2 e3 e4 e5 = rw (e5, e2, e4, e1, e3)
+
+-- room for n candidates in each of them
+pub record Rooms (n : ℕ) (b : Buffers) : Type 0 where
+  pub elements : n ≤ length (b .elements)
+  pub intrinsics : n ≤ length (b .intrinsics)
+  pub near : n ≤ length (b .near)
+  pub rawLogs : n ≤ length (b .rawLogs)
+  pub parents : n ≤ length (b .parents)
+  pub scores : n ≤ length (b .scores)
+
+pub rooms : (n : ℕ) (b : Buffers) → n ≤ candidateRoom b → Rooms n b
+rooms n b h = omega arith
+
+module _ (ws : List ℕ) where
+  abbrev count : ℕ
+  count = getD ws 0 0 % 32
+
+  pub row-before : readRow ws .before ≡ getD ws 0 0 / 32 % 32
+  unfolding readRow
+  row-before = refl
+
+  pub row-number : length (readRow ws .distances) ≡ count * (getD ws 0 0 / 32 % 32)
+  unfolding readRow
+  row-number = length-each readDistance 2 (count * (getD ws 0 0 / 32 % 32)) (drop 1 (drop (7 * count) (drop 1 ws)))
+
+  row-distance : (d : Float) (k : ℕ) → k < count * (getD ws 0 0 / 32 % 32) → floatAt ws (2 + 7 * count + 2 * k) ≡ getD (readRow ws .distances) k d
+  unfolding readRow
+  row-distance d k h =
+      let n = count * (getD ws 0 0 / 32 % 32) in
+      let past : drop 1 (drop (7 * count) (drop 1 ws)) ≡ drop (2 + 7 * count) ws = ap (drop 1) (drop-drop (7 * count) 1 ws) ∙ drop-drop 1 (1 + 7 * count) ws ∙ ap (λ (k : ℕ). drop k ws) plus in
+      sym (getD-each readDistance 2 n (drop 1 (drop (7 * count) (drop 1 ws))) k d h
+      ∙ ap (λ (l : List ℕ). readDistance (drop (2 * k) l)) past
+      ∙ drop-float (2 * k) 0 (drop (2 + 7 * count) ws)
+      ∙ drop-float (2 + 7 * count) (2 * k + 0) ws
+      ∙ ap (floatAt ws) none-more)
+    where
+      plus : 1 + 7 * count + 1 ≡ 2 + 7 * count
+      plus = omega arith
+
+      none-more : 2 + 7 * count + (2 * k + 0) ≡ 2 + 7 * count + 2 * k
+      none-more = omega arith
+
+  -- a candidate's fields
+  abbrev plain : ℕ → Cell
+  plain k = record {
+    candidate = record { element = getD ws (1 + 7 * k) 0 % 1024; intrinsic = floatAt ws (1 + 7 * k + 1); near = getD ws (1 + 7 * k) 0 / 1024 % 2; «raw_log» = floatAt ws (1 + 7 * k + 3) };
+    parent = getD ws (1 + 7 * k) 0 / 2048 % 32;
+    score = floatAt ws (1 + 7 * k + 5);
+  }
+
+  cell-plain : (k : ℕ) → k < size (readRow ws) → cellOf (readRow ws) k ≡ plain k
+  cell-plain k h = row-cell ws k h ∙ cell-at (1 + 7 * k) ws
+
+  -- a column of the cells: where its entries are read
+  column-listed : {A : Type 0} (f : Cell → A) (g : ℕ → A) (buffer : List A) → ((k : ℕ) → g k ≡ f (plain k)) → size (readRow ws) ≤ length buffer
+      → entries count g buffer ≡ listed (map f (readRow ws .cells)) buffer
+  column-listed f g buffer e room =
+      entries-listed (f noCell) (map f (readRow ws .cells)) buffer g (sym (row-size ws) ∙ sym (length-map (readRow ws .cells) f)) (omega (arith, row-size ws))
+      (λ k l. e k ∙ ap f (sym (cell-plain k (omega (arith, row-size ws)))) ∙ sym (List·getD-map f (readRow ws .cells) k noCell))
+
+  -- ---- the row of a whole record
+
+  module _ (h : RecordWhole ws) where
+    many : size (readRow ws) ≡ count
+    many = row-size ws
+
+    -- its length, by what is read
+    long : 7 * count + 2 * (count * (getD ws 0 0 / 32 % 32)) + 3 ≤ length ws
+    unfolding recordLength
+    long = rw (many, row-before) at (h .room)
+
+    product : count * (getD ws 0 0 / 32 % 32) ≤ 256
+    product =
+        let few : count ≤ 16 = omega (arith, many, h .few) in
+        let few-before : getD ws 0 0 / 32 % 32 ≤ 16 = omega (arith, row-before, h .few-before) in
+        mul-le-mul few few-before
+
+    pub some-words : 0 < length ws
+    some-words = omega (arith, long)
+
+    pub fields-stand : (unit limit : ℕ) (buffer : List ℕ) → 0 < unit → 0 < limit → count ≤ length buffer → FieldsStand ws count unit limit buffer
+    fields-stand unit limit buffer u l room = record { inside = omega (arith, long); some-unit = u; some-limit = l; room = room }
+
+    pub floats-stand : (place : ℕ) (buffer : List Float) → place ≤ 6 → count ≤ length buffer → FloatsStand ws place 7 count buffer
+    floats-stand place buffer l room = record { inside = λ k i. omega (arith, long); small = omega (arith, many, h .few); room = room }
+
+    pub distances-stand : {number : ℕ} (buffer : List Float) → number ≡ count * (getD ws 0 0 / 32 % 32) → number ≤ length buffer → FloatsStand ws (2 + 7 * count) 2 number buffer
+    distances-stand buffer e room = record { inside = λ k i. omega (arith, long); small = omega (arith, product, many, h .few); room = room }
+
+  -- ---- checked and stored
+
+  module _ (b : Buffers) {number : ℕ} (e : number ≡ count * (getD ws 0 0 / 32 % 32)) where
+    pub row-longer : candidateRoom b < count → fitted b (readRow ws) ≡ refused 15
+    unfolding fitted
+    row-longer l = let m : candidateRoom b < size (readRow ws) = omega (arith, row-size ws) in rw (lt-leb _ _ m)
+
+    module _ (l : count ≤ candidateRoom b) where
+      room : size (readRow ws) ≤ candidateRoom b
+      room = omega (arith, row-size ws)
+
+      pub distances-longer : length (b .distances) < number → fitted b (readRow ws) ≡ refused 15
+      unfolding fitted
+      distances-longer d = let m : length (b .distances) < length (readRow ws .distances) = omega (arith, row-number) in rw (le-leb _ _ room, lt-leb _ _ m)
+
+      module _ (d : number ≤ length (b .distances)) where
+        row-fits : fitted b (readRow ws) ≡ gives (readRow ws)
+        unfolding fitted
+        row-fits = let m : length (readRow ws .distances) ≤ length (b .distances) = omega (arith, row-number) in rw (le-leb _ _ room, le-leb _ _ m)
+
+        pub row-answer : RowAnswer count (getD ws 0 0 / 32 % 32) ≡ rowAnswer (fitted b (readRow ws))
+        unfolding rowAnswer
+        row-answer = rw (row-fits, row-size ws, row-before)
+
+        -- where each float is read
+        at : (i k : ℕ) → floatAt ws (i + 1 + 7 * k) ≡ floatAt ws (1 + 7 * k + i)
+        at i k = let plus : i + 1 + 7 * k ≡ 1 + 7 * k + i = omega arith in ap (floatAt ws) plus
+
+        pub row-filled : {elements : List ℕ} {intrinsics : List Float} {near : List ℕ} {rawLogs : List Float} {parents : List ℕ} {scores distances : List Float}
+            → elements ≡ entries count (λ k. getD ws (1 + 7 * k) 0 / 1 % 1024) (b .elements)
+            → intrinsics ≡ entries count (λ k. floatAt ws (2 + 7 * k)) (b .intrinsics)
+            → near ≡ entries count (λ k. getD ws (1 + 7 * k) 0 / 1024 % 2) (b .near)
+            → rawLogs ≡ entries count (λ k. floatAt ws (4 + 7 * k)) (b .rawLogs)
+            → parents ≡ entries count (λ k. getD ws (1 + 7 * k) 0 / 2048 % 32) (b .parents)
+            → scores ≡ entries count (λ k. floatAt ws (6 + 7 * k)) (b .scores)
+            → distances ≡ entries number (λ k. floatAt ws (2 + 7 * count + 2 * k)) (b .distances)
+            → buffersOf elements intrinsics near rawLogs parents scores distances ≡ filled (fitted b (readRow ws)) b
+        unfolding filled
+        row-filled q1 q2 q3 q4 q5 q6 q7 =
+            let each = rooms (size (readRow ws)) b room in
+            let e1 = q1 ∙ column-listed (λ (c : Cell). c .candidate .element) (λ k. getD ws (1 + 7 * k) 0 / 1 % 1024) (b .elements) (λ k. ap (λ (w : ℕ). w % 1024) (div-one (getD ws (1 + 7 * k) 0))) (each .elements) in
+            let e2 = q2 ∙ column-listed (λ (c : Cell). c .candidate .intrinsic) (λ k. floatAt ws (2 + 7 * k)) (b .intrinsics) (at 1) (each .intrinsics) in
+            let e3 = q3 ∙ column-listed (λ (c : Cell). c .candidate .near) (λ k. getD ws (1 + 7 * k) 0 / 1024 % 2) (b .near) (λ k. refl) (each .near) in
+            let e4 = q4 ∙ column-listed (λ (c : Cell). c .candidate .«raw_log») (λ k. floatAt ws (4 + 7 * k)) (b .rawLogs) (at 3) (each .rawLogs) in
+            let e5 = q5 ∙ column-listed (λ (c : Cell). c .parent) (λ k. getD ws (1 + 7 * k) 0 / 2048 % 32) (b .parents) (λ k. refl) (each .parents) in
+            let e6 = q6 ∙ column-listed (λ (c : Cell). c .score) (λ k. floatAt ws (6 + 7 * k)) (b .scores) (at 5) (each .scores) in
+            let e7 = q7 ∙ entries-listed nan (readRow ws .distances) (b .distances) (λ k. floatAt ws (2 + 7 * count + 2 * k)) (e ∙ sym row-number) d (λ k i. row-distance nan k (omega arith)) in
+            rw row-fits (rw (e1, e2, e3, e4, e5, e6, e7))
+
+-- ---- a row at its place in the journal
+
+pub row-unread : (s : List ℕ) (n : ℕ) (b : Buffers) → survey s ≡ NotWellFormed → reading s n b ≡ refused 7
+unfolding reading
+row-unread s n b e = rw (survey-no s e)
+
+module _ (s : List ℕ) {rows used : ℕ} {p : Predecessor} (e : survey s ≡ WellFormed rows used p) (n : ℕ) where
+  pub row-past : (b : Buffers) → rows ≤ n → reading s n b ≡ refused 13
+  unfolding reading
+  row-past b l =
+      let r = survey-rows s rows used p e in
+      let m : length (r .rows) ≤ n = omega (arith, r .counted) in
+      rw (r .reads, le-ltb _ _ m)
+
+  module _ (l : n < rows) where
+    pub row-standing : Standing s (rows - n)
+    row-standing = struck-stand s (rows - n) rows used p e (omega arith)
+
+    module _ {place : ℕ} (q : place ≡ endOf s (rows - n)) where
+      surveyed : Surveyed s rows used p
+      surveyed = survey-rows s rows used p e
+
+      k : ℕ
+      k = length (surveyed .rows) - suc n
+
+      split : drop k (surveyed .rows) ≡ rowNumber (surveyed .rows) n ∷ drop (rows - n) (surveyed .rows)
+      unfolding k
+      split =
+          let next : suc (length (surveyed .rows) - suc n) ≡ rows - n = omega (arith, surveyed .counted) in
+          drop-cons (surveyed .rows) (length (surveyed .rows) - suc n) noRow (omega (arith, surveyed .counted)) ∙ ap (λ (m : ℕ). rowNumber (surveyed .rows) n ∷ drop m (surveyed .rows)) next
+
+      placed : place ≡ suc (length (words (drop (rows - n) (surveyed .rows))))
+      unfolding endOf
+      placed = q ∙ ap (endRead (rows - n)) (surveyed .reads)
+
+      pub row-place : place ≤ length s
+      row-place = omega (arith, placed, row-inside s (surveyed .rows) (surveyed .reads) k (rowNumber (surveyed .rows) n) (drop (rows - n) (surveyed .rows)) split)
+
+      row-here : readRow (drop place s) ≡ rowNumber (surveyed .rows) n
+      row-here = ap (λ (m : ℕ). readRow (drop m s)) placed ∙ row-at s (surveyed .rows) (surveyed .reads) k (rowNumber (surveyed .rows) n) (drop (rows - n) (surveyed .rows)) split
+
+      obeys : Obey (rowNumber (surveyed .rows) n ∷ drop (rows - n) (surveyed .rows))
+      obeys = row-obeys s (surveyed .rows) (surveyed .reads) k (rowNumber (surveyed .rows) n) (drop (rows - n) (surveyed .rows)) split
+
+      pub row-whole : RecordWhole (drop place s)
+      row-whole = record {
+        few = rw row-here (obeys .0 .0 .few);
+        few-before = rw row-here (obeys .0 .0 .few-before);
+        room = rw (row-here, length-drop place s)
+            (omega (arith, placed, length-record (rowNumber (surveyed .rows) n) (obeys .0 .0 .number), row-inside s (surveyed .rows) (surveyed .reads) k (rowNumber (surveyed .rows) n) (drop (rows - n) (surveyed .rows)) split));
+      }
+
+      pub row-reading : (b : Buffers) → reading s n b ≡ fitted b (readRow (drop place s))
+      unfolding reading
+      row-reading b =
+          let m : n < length (surveyed .rows) = omega (arith, surveyed .counted) in
+          ap (readingRead n b) (surveyed .reads) ∙ rw (lt-ltb _ _ m, row-here)
