@@ -2,11 +2,15 @@
 use mathlib.Core.Path.{refl, sym, _∙_}
 use native.Mathlib.Omega.{arith}
 use borrow.Author.Needs.{needs}
-use Rattle.closing.specs.Row.{buffersOf, rowAnswer, filled}
+use Rattle.closing.specs.Row.{Buffers, buffersOf, rowAnswer, filled}
 use Rattle.journal.proofs.Stores.{take-rest}
 use Rattle.closing.proofs.Rows.{row-unread, row-past, row-standing, row-place, row-whole, row-reading}
 use Rattle.closing.proofs.row.read_row.Statement.{statement}
 use Rattle.closing.proofs.row.read_row.Tie as tie
+
+-- the buffers as they were lent
+abbrev lent : tie.Start → Buffers
+lent c = buffersOf (c .args .elements .now) (c .args .intrinsics .now) (c .args .near .now) (c .args .raw-logs .now) (c .args .parents .now) (c .args .scores .now) (c .args .distances .now)
 
 read-journal-requires : tie.Need-read-journal-requires
 read-journal-requires c κs = search needs
@@ -19,7 +23,7 @@ enum-known-found c = search needs
 
 returns : tie.Need-returns
 unfolding rowAnswer filled
-returns c = let e = row-past (c .before .before .before .before .before .before .before .before .before .before .before .before .before .args .journal .now) (sym (c .before .before .before .before .read-journal .ensures) ∙ c .before .before .found .given .1) _ (buffersOf (c .before .before .before .before .before .before .before .before .before .before .before .before .before .args .elements .now) (c .before .before .before .before .before .before .before .before .before .before .before .before .before .args .intrinsics .now) (c .before .before .before .before .before .before .before .before .before .before .before .before .before .args .near .now) (c .before .before .before .before .before .before .before .before .before .before .before .before .before .args .raw-logs .now) (c .before .before .before .before .before .before .before .before .before .before .before .before .before .args .parents .now) (c .before .before .before .before .before .before .before .before .before .before .before .before .before .args .scores .now) (c .before .before .before .before .before .before .before .before .before .before .before .before .before .args .distances .now)) (c .if1 .taken) in rw e (refl, refl)
+returns c = let e = row-past (c .before .before .before .before .before .before .before .before .before .before .before .before .before .args .journal .now) (sym (c .before .before .before .before .read-journal .ensures) ∙ c .before .before .found .given .1) _ (lent (c .before .before .before .before .before .before .before .before .before .before .before .before .before)) (c .if1 .taken) in rw e (refl, refl)
 
 sub-end-before : tie.Need-sub-end-before
 sub-end-before c = search needs
@@ -44,7 +48,7 @@ copy-row-requires c κs = rw take-rest (row-whole (c .before .before .before .be
 
 returns-2 : tie.Need-returns-2
 unfolding rowAnswer filled
-returns-2 c = let e = row-unread (c .before .before .before .before .before .before .before .before .before .before .before .args .journal .now) (c .before .before .before .before .before .before .before .before .before .before .before .args .row) (buffersOf (c .before .before .before .before .before .before .before .before .before .before .before .args .elements .now) (c .before .before .before .before .before .before .before .before .before .before .before .args .intrinsics .now) (c .before .before .before .before .before .before .before .before .before .before .before .args .near .now) (c .before .before .before .before .before .before .before .before .before .before .before .args .raw-logs .now) (c .before .before .before .before .before .before .before .before .before .before .before .args .parents .now) (c .before .before .before .before .before .before .before .before .before .before .before .args .scores .now) (c .before .before .before .before .before .before .before .before .before .before .before .args .distances .now)) (sym (c .before .before .read-journal .ensures) ∙ c .enum-told .given .1) in rw e (refl, refl)
+returns-2 c = let e = row-unread (c .before .before .before .before .before .before .before .before .before .before .before .args .journal .now) (c .before .before .before .before .before .before .before .before .before .before .before .args .row) (lent (c .before .before .before .before .before .before .before .before .before .before .before)) (sym (c .before .before .read-journal .ensures) ∙ c .enum-told .given .1) in rw e (refl, refl)
 
 same-length : tie.Need-same-length
 same-length c = search needs
@@ -68,7 +72,7 @@ same-length-7 : tie.Need-same-length-7
 same-length-7 c = search needs
 
 returns-3 : tie.Need-returns-3
-returns-3 c = let e = row-reading (c .before .before .before .before .before .before .before .before .before .before .before .before .before .before .before .before .before .before .before .before .before .before .before .before .before .before .before .before .before .before .before .before .before .before .before .before .before .args .journal .now) (sym (c .before .before .before .before .before .before .before .before .before .before .before .before .before .before .before .before .before .before .before .before .before .before .before .before .before .before .before .before .read-journal .ensures) ∙ c .before .before .before .before .before .before .before .before .before .before .before .before .before .before .before .before .before .before .before .before .before .before .before .before .before .before .found .given .1) _ (c .before .before .before .before .before .before .before .before .before .before .before .before .before .before .before .before .before .before .before .before .before .before .before .before .if1 .left) (c .before .before .before .before .before .before .before .before .before .before .before .before .before .before .before .before .before .before .before .before .before .before .before .end-before .ensures) (buffersOf (c .before .before .before .before .before .before .before .before .before .before .before .before .before .before .before .before .before .before .before .before .before .before .before .before .before .before .before .before .before .before .before .before .before .before .before .before .before .args .elements .now) (c .before .before .before .before .before .before .before .before .before .before .before .before .before .before .before .before .before .before .before .before .before .before .before .before .before .before .before .before .before .before .before .before .before .before .before .before .before .args .intrinsics .now) (c .before .before .before .before .before .before .before .before .before .before .before .before .before .before .before .before .before .before .before .before .before .before .before .before .before .before .before .before .before .before .before .before .before .before .before .before .before .args .near .now) (c .before .before .before .before .before .before .before .before .before .before .before .before .before .before .before .before .before .before .before .before .before .before .before .before .before .before .before .before .before .before .before .before .before .before .before .before .before .args .raw-logs .now) (c .before .before .before .before .before .before .before .before .before .before .before .before .before .before .before .before .before .before .before .before .before .before .before .before .before .before .before .before .before .before .before .before .before .before .before .before .before .args .parents .now) (c .before .before .before .before .before .before .before .before .before .before .before .before .before .before .before .before .before .before .before .before .before .before .before .before .before .before .before .before .before .before .before .before .before .before .before .before .before .args .scores .now) (c .before .before .before .before .before .before .before .before .before .before .before .before .before .before .before .before .before .before .before .before .before .before .before .before .before .before .before .before .before .before .before .before .before .before .before .before .before .args .distances .now)) in rw e (rw take-rest at (c .before .before .before .before .before .before .before .before .before .before .before .before .before .before .copy-row .ensures))
+returns-3 c = let start = (c .before .before .before .before .before .before .before .before .before .before .before .before .before .before .before .before .before .before .before .before .before .before .before .before .before .before .before .before .before .before .before .before .before .before .before .before .before) in let e = row-reading (start .args .journal .now) (sym (c .before .before .before .before .before .before .before .before .before .before .before .before .before .before .before .before .before .before .before .before .before .before .before .before .before .before .before .before .read-journal .ensures) ∙ c .before .before .before .before .before .before .before .before .before .before .before .before .before .before .before .before .before .before .before .before .before .before .before .before .before .before .found .given .1) _ (c .before .before .before .before .before .before .before .before .before .before .before .before .before .before .before .before .before .before .before .before .before .before .before .before .if1 .left) (c .before .before .before .before .before .before .before .before .before .before .before .before .before .before .before .before .before .before .before .before .before .before .before .end-before .ensures) (lent start) in rw e (rw take-rest at (c .before .before .before .before .before .before .before .before .before .before .before .before .before .before .copy-row .ensures))
 
 pub read-row-spec : {M : Type 1} → statement M
 read-row-spec =
