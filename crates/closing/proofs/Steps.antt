@@ -27,7 +27,7 @@ use Rattle.journal.proofs.Places.{row-obeys, row-at, row-inside}
 use Rattle.rows.specs.Scoring.{CandidateStands}
 use Rattle.decoder.specs.Closing.{Pairs, follow}
 use Rattle.closing.specs.Walk.{RowStands, standing, firstRows, Reached, Onward, pathFrom, over, entered, Entry, column}
-use Rattle.closing.specs.Row.{noRow}
+use Rattle.closing.specs.Row.{noRow, rowNumber}
 use Rattle.closing.specs.declared.walk.Back.{Back}
 use Rattle.closing.proofs.Records.{row-candidate}
 
@@ -243,6 +243,47 @@ module _ (s : List ℕ) (b : Back) (h : Reached s b) (left : 0 < b .rows) where
         go : (t : Bool) → scores here ≡ t → over (firstRows s (b .rows)) b .rows ≡ b .rows - 1
         go true t = rw (over-yes t) many
         go false t = rw (over-no t) many
+
+    -- ---- the pair that a step gives
+
+    -- no pair: as many are still to come
+    pub over-quiet : over (firstRows s (b .rows)) b .pairs ≡ b .pairs → pathFrom s b ≡ pathFrom s (over (firstRows s (b .rows)) b)
+    over-quiet e = go (scores here) refl
+      where
+        go : (t : Bool) → scores here ≡ t → pathFrom s b ≡ pathFrom s (over (firstRows s (b .rows)) b)
+        go true t = absurd (let more : b .pairs + 1 ≡ b .pairs = rw (over-yes t) at e in omega arith)
+        go false t = follow-no t ∙ rw (over-no t, again)
+
+    -- past the record, where it starts
+    pub over-place : over (firstRows s (b .rows)) b .end ≡ b .end - back s (b .end)
+    over-place = go (scores here) refl
+      where
+        go : (t : Bool) → scores here ≡ t → over (firstRows s (b .rows)) b .end ≡ b .end - back s (b .end)
+        go true t = rw (over-yes t) (sym step-place)
+        go false t = rw (over-no t) (sym step-place)
+
+    pub over-inside : over (firstRows s (b .rows)) b .end ≤ length s
+    over-inside = omega (arith, over-place, step-room)
+
+    module _ (paired : over (firstRows s (b .rows)) b .pairs ≡ b .pairs → ⊥) where
+      pair-scores : scores here ≡ true
+      pair-scores = go (scores here) refl
+        where
+          go : (t : Bool) → scores here ≡ t → t ≡ true
+          go true t = refl
+          go false t = absurd (paired (rw (over-no t)))
+
+      pub over-pair : pathFrom s b ≡ (over (firstRows s (b .rows)) b .rows, b .candidate) ∷ pathFrom s (over (firstRows s (b .rows)) b)
+      over-pair = follow-yes pair-scores ∙ rw (over-yes pair-scores, again)
+
+      pub over-row : readRow (drop (over (firstRows s (b .rows)) b .end) s) ≡ rowNumber (standing s) (over (firstRows s (b .rows)) b .rows)
+      unfolding here passed
+      over-row =
+          let at : length (standing s) - suc (over (firstRows s (b .rows)) b .rows) ≡ length (standing s) - b .rows = omega (arith, over-rows, h .within) in
+          rw (over-place, at) step-row
+
+      pub over-candidate : CandidateStands (drop (over (firstRows s (b .rows)) b .end) s) (b .candidate)
+      over-candidate = rw over-place (row-candidate (drop (b .end - back s (b .end)) s) step-stands (b .candidate) (rw step-row (inside pair-scores)))
 
     -- a column of the pairs, stored from the last entry down
     pub over-column : (f : Entry) (n : ℕ) (buffer : List ℕ) (x : ℕ) → x ≡ f (over (firstRows s (b .rows)) b .rows, b .candidate) → b .pairs < n → n ≤ length buffer

@@ -3,4 +3,4 @@ mod buffer;
 pub mod close;
 mod record;
 pub mod row;
-mod walk;
+pub mod walk;

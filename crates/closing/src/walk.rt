@@ -16,7 +16,7 @@ pub struct Back {
 }
 
 // Over one record: a row that scores gives a pair, and its candidate's parent is the next one.
-fn step_back(journal: &[u32], b: Back) -> Back
+pub fn step_back(journal: &[u32], b: Back) -> Back
     requires { ⌜ Onward (now journal) b ⌝ }
     ensures { λ r. ⌜ r ≡ over (firstRows (now (journal .entry)) (b .rows)) b ⌝ }
 {

@@ -1,0 +1,3 @@
+-- What the contracts of `groups` speak of.
+pub mod Groups
+pub mod Gather
