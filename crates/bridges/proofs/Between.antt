@@ -15,7 +15,9 @@ use Rattle.routing.proofs.Accepted.{accepted-sound}
 use Rattle.transition.specs.Pair.{billionth}
 use Rattle.bridges.specs.declared.sides.Cheapest.{Cheapest}
 use Rattle.bridges.specs.declared.sides.Cheapest.the-variants.{Nothing, Sides}
+use Rattle.bridges.specs.declared.insert.Bridges.{Bridges}
 use Rattle.bridges.specs.Bridges.{traced, betweenSides, between}
+use Rattle.bridges.specs.Found.{bridgesOf}
 use Rattle.bridges.proofs.Cheapest.{sidesOf, sides-refused}
 use Rattle.bridges.proofs.Traced.{Bridge, traced-each, traced-few}
 use Rattle.bridges.proofs.States.{states-inside}
@@ -62,3 +64,19 @@ module _ (net : Network) (previous next : ℕ) where
 
   pub route-short : checked net ≡ Accepted → (side side′ : ℕ) → length (traced previous next [] (routeStates (net .graph) previous side next side′)) ≤ 1024
   route-short accepted side side′ = along accepted side side′ .short
+
+  -- ---- what inserting them returns
+
+  module _ {best : Cheapest} (told : best ≡ sidesOf net previous next) {r : Bridges} where
+    pub insert-none : best ≡ Nothing → r ≡ bridgesOf [] → r ≡ bridgesOf (between net previous next)
+    unfolding between betweenSides
+    insert-none e h = rw (sym told ∙ e) h
+
+    module _ (cost : Float) (side side′ : ℕ) (found : best ≡ Sides cost side side′) where
+      pub insert-near : lt cost (ofBits binary64 4472406533629990549) ≡ true → r ≡ bridgesOf [] → r ≡ bridgesOf (between net previous next)
+      unfolding between betweenSides ofBits
+      insert-near e h = rw (sym told ∙ found, e) h
+
+      pub insert-far : lt cost (ofBits binary64 4472406533629990549) ≡ false → r ≡ bridgesOf (traced previous next [] (routeStates (net .graph) previous side next side′)) → r ≡ bridgesOf (between net previous next)
+      unfolding between betweenSides ofBits
+      insert-far e h = rw (sym told ∙ found, e) h

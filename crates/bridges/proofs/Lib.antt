@@ -6,3 +6,4 @@ pub mod Found
 pub mod Tracing
 pub mod States
 pub mod Between
+pub mod Listed

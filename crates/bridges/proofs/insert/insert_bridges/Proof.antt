@@ -1,52 +1,49 @@
+-- `bridges::insert::insert_bridges` meets its contract. Assumes nothing.
+use mathlib.Core.Path.{ap, _∙_}
 use borrow.Author.Needs.{needs}
+use Rattle.bridges.specs.Bridges.{cheapestOf}
+use Rattle.bridges.proofs.Cheapest.{sides-accepted}
+use Rattle.bridges.proofs.Between.{insert-none, insert-near, insert-far}
 use Rattle.bridges.proofs.insert.insert_bridges.Statement.{statement}
 use Rattle.bridges.proofs.insert.insert_bridges.Tie as tie
-use Rattle.bridges.proofs.insert.insert_bridges.Reads as reads
-use Rattle.bridges.proofs.insert.insert_bridges.Lts as lts
-use Rattle.bridges.proofs.insert.trace_intermediate_netelements.Reads as trace-intermediate-netelements-reads
-use Rattle.bridges.proofs.sides.cheapest_sides.Reads as cheapest-sides-reads
-use Rattle.bridges.proofs.trace.no_bridges.Reads as no-bridges-reads
-use Rattle.transition.proofs.routes.routes_between.Reads as routes-between-reads
 
--- src/insert.rt:84:9
 routes-between-requires : tie.Need-routes-between-requires
-routes-between-requires c κs = search needs
+routes-between-requires c κs = tt
 
--- src/insert.rt:87:9
 cheapest-sides-requires : tie.Need-cheapest-sides-requires
-cheapest-sides-requires c κs = search needs
+cheapest-sides-requires c κs = tt
 
--- src/insert.rt:89:25
 enum-known-best : tie.Need-enum-known-best
 enum-known-best c = search needs
 
--- src/insert.rt:91:17
 no-bridges-requires : tie.Need-no-bridges-requires
-no-bridges-requires c κs = search needs
+no-bridges-requires c κs = tt
 
--- src/insert.rt:91:17
 returns : tie.Need-returns
-returns c = ?
+returns c =
+    let told = c .before .before .before .before .before .cheapest-sides .ensures ∙ ap cheapestOf (c .before .before .before .before .before .before .routes-between .ensures) in
+    insert-near _ _ _ told _ _ _ (c .before .before .before .best .given .1) (c .before .if1 .taken) (c .no-bridges .ensures)
 
--- src/insert.rt:93:13
 trace-intermediate-netelements-requires : tie.Need-trace-intermediate-netelements-requires
-trace-intermediate-netelements-requires c κs = ?
+trace-intermediate-netelements-requires c κs =
+    let told = c .before .before .before .before .cheapest-sides .ensures ∙ ap cheapestOf (c .before .before .before .before .before .routes-between .ensures) in
+    sides-accepted _ _ _ told (c .before .before .best .given .1)
 
--- src/insert.rt:98:30
 enum-told : tie.Need-enum-told
 enum-told c = search needs
 
--- src/insert.rt:98:30
 no-bridges-requires-2 : tie.Need-no-bridges-requires-2
-no-bridges-requires-2 c κs = search needs
+no-bridges-requires-2 c κs = tt
 
--- src/insert.rt:69:1
 returns-2 : tie.Need-returns-2
-returns-2 c = ?
+returns-2 c =
+    let told = c .before .before .before .before .before .cheapest-sides .ensures ∙ ap cheapestOf (c .before .before .before .before .before .before .routes-between .ensures) in
+    insert-far _ _ _ told _ _ _ (c .before .before .before .best .given .1) (c .before .if1 .left) (c .trace-intermediate-netelements .ensures)
 
--- src/insert.rt:69:1
 returns-3 : tie.Need-returns-3
-returns-3 c = ?
+returns-3 c =
+    let told = c .before .before .before .cheapest-sides .ensures ∙ ap cheapestOf (c .before .before .before .before .routes-between .ensures) in
+    insert-none _ _ _ told (c .before .enum-told .given .1) (c .no-bridges2 .ensures)
 
 pub insert-bridges-spec : {M : Type 1} → statement M
 insert-bridges-spec =

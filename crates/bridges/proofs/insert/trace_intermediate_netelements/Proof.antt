@@ -1,60 +1,60 @@
+-- `bridges::insert::trace_intermediate_netelements` meets its contract. Assumes nothing.
 use borrow.Author.Needs.{needs}
+use Rattle.bridges.proofs.Listed.{listed-room, listed-long, listed-short, listed-traced, none-traced, refused-traced}
 use Rattle.bridges.proofs.insert.trace_intermediate_netelements.Statement.{statement}
 use Rattle.bridges.proofs.insert.trace_intermediate_netelements.Tie as tie
-use Rattle.bridges.proofs.insert.trace_intermediate_netelements.Reads as reads
-use Rattle.bridges.proofs.insert.trace_intermediate_netelements.Lts as lts
-use Rattle.bridges.proofs.trace.elements_of.Reads as elements-of-reads
-use Rattle.bridges.proofs.trace.no_bridges.Reads as no-bridges-reads
-use Rattle.bridges.proofs.trace.no_states.Reads as no-states-reads
-use Rattle.routing.proofs.route.shortest_path_route.Reads as shortest-path-route-reads
 
--- src/insert.rt:43:22
 no-states-requires : tie.Need-no-states-requires
-no-states-requires c κs = search needs
+no-states-requires c κs = tt
 
--- src/insert.rt:58:9
 slice-aggregate-shortest-path-route : tie.Need-slice-aggregate-shortest-path-route
 slice-aggregate-shortest-path-route c = search needs
 
--- src/insert.rt:44:9
 shortest-path-route-requires : tie.Need-shortest-path-route-requires
-shortest-path-route-requires c κs = search needs
+shortest-path-route-requires c κs = tt
 
--- src/insert.rt:61:28
 enum-known-listing : tie.Need-enum-known-listing
 enum-known-listing c = search needs
 
--- src/insert.rt:61:34
 elements-of-requires : tie.Need-elements-of-requires
-elements-of-requires c κs = ?
+elements-of-requires c κs =
+    let start = c .before .before .before .before .before .before .before .before .before .before .before .before .before .before .before .before .before in
+    let begun = c .before .before .before .before .before .before .before .no-states .ensures in
+    let listed = c .before .before .before .before .before .shortest-path-route .ensures in
+    let found = c .before .before .listing .given .1 in
+    (
+      (listed-room _ (start .pre) _ _ _ _ begun (listed .0) (listed .1) _ _ found, listed-long _ (start .pre) _ _ _ _ begun (listed .0) (listed .1) _ _ found),
+      listed-short _ (start .pre) _ _ _ _ begun (listed .0) (listed .1) _ _ found,
+    )
 
--- src/insert.rt:62:29
 enum-told : tie.Need-enum-told
 enum-told c = search needs
 
--- src/insert.rt:62:29
 no-bridges-requires : tie.Need-no-bridges-requires
-no-bridges-requires c κs = search needs
+no-bridges-requires c κs = tt
 
--- src/insert.rt:63:32
 enum-told-2 : tie.Need-enum-told-2
 enum-told-2 c = search needs
 
--- src/insert.rt:63:32
 no-bridges-requires-2 : tie.Need-no-bridges-requires-2
-no-bridges-requires-2 c κs = search needs
+no-bridges-requires-2 c κs = tt
 
--- src/insert.rt:25:1
 returns : tie.Need-returns
-returns c = ?
+returns c =
+    let start = c .before .before .before .before .before .before .before .before .before .before .before .before .before .before .before .before .before .before in
+    let begun = c .before .before .before .before .before .before .before .before .no-states .ensures in
+    let listed = c .before .before .before .before .before .before .shortest-path-route .ensures in
+    listed-traced _ (start .pre) _ _ _ _ begun (listed .0) (listed .1) _ _ (c .before .before .before .listing .given .1) (c .elements-of .ensures)
 
--- src/insert.rt:25:1
 returns-2 : tie.Need-returns-2
-returns-2 c = ?
+returns-2 c =
+    let start = c .before .before .before .before .before .before .before .before .before .before .before .before .before .before .before .before in
+    none-traced _ (start .pre) _ _ _ _ (c .before .before .before .before .before .before .no-states .ensures) (c .before .before .before .before .shortest-path-route .ensures .0) (c .no-bridges .ensures) (c .before .enum-told .given .1)
 
--- src/insert.rt:25:1
 returns-3 : tie.Need-returns-3
-returns-3 c = ?
+returns-3 c =
+    let start = c .before .before .before .before .before .before .before .before .before .before .before .before .before .before .before .before in
+    refused-traced _ (start .pre) _ _ _ _ (c .before .before .before .before .before .before .no-states .ensures) (c .before .before .before .before .shortest-path-route .ensures .0) (c .no-bridges2 .ensures) _ (c .before .enum-told2 .given .1)
 
 pub trace-intermediate-netelements-spec : {M : Type 1} → statement M
 trace-intermediate-netelements-spec =
