@@ -1,11 +1,11 @@
 -- The elements between two: at most 1,024, all known and none of them an end; and what each return of inserting them gives. Assumes nothing.
-use mathlib.Core.Path.{_≡_, refl, sym, ap, _∙_}
+use mathlib.Core.Path.{_≡_, refl, sym, _∙_}
 use mathlib.Core.Bool.{Bool, true, false, cond}
 use mathlib.Core.List.{List, []}
-use Prim.Native.Nat.{ℕ, _*_, _≤_}
+use Prim.Native.Nat.{ℕ, _≤_}
 use native.Mathlib.Omega.{arith}
 use lib.ListN.{length}
-use lib.Ieee.{Float, lt, binary64, ofBits}
+use lib.Ieee.{Float, lt, ofBits}
 use Rattle.journal.specs.WellFormed.{Each}
 use Rattle.routing.specs.declared.network.Checked.{Checked}
 use Rattle.routing.specs.declared.network.Checked.the-variants.{Accepted, Refused}
@@ -13,6 +13,7 @@ use Rattle.routing.specs.Network.{Network, count, checked}
 use Rattle.routing.specs.Route.{routeStates}
 use Rattle.routing.proofs.Accepted.{accepted-sound}
 use Rattle.transition.specs.Pair.{billionth}
+use Rattle.transition.proofs.Cases.{billionth-bits}
 use Rattle.bridges.specs.declared.sides.Cheapest.{Cheapest}
 use Rattle.bridges.specs.declared.sides.Cheapest.the-variants.{Nothing, Sides}
 use Rattle.bridges.specs.declared.insert.Bridges.{Bridges}
@@ -73,10 +74,10 @@ module _ (net : Network) (previous next : ℕ) where
     insert-none e h = rw (sym told ∙ e) h
 
     module _ (cost : Float) (side side′ : ℕ) (found : best ≡ Sides cost side side′) where
-      pub insert-near : lt cost (ofBits binary64 4472406533629990549) ≡ true → r ≡ bridgesOf [] → r ≡ bridgesOf (between net previous next)
+      pub insert-near : lt cost billionth-bits ≡ true → r ≡ bridgesOf [] → r ≡ bridgesOf (between net previous next)
       unfolding between betweenSides ofBits
       insert-near e h = rw (sym told ∙ found, e) h
 
-      pub insert-far : lt cost (ofBits binary64 4472406533629990549) ≡ false → r ≡ bridgesOf (traced previous next [] (routeStates (net .graph) previous side next side′)) → r ≡ bridgesOf (between net previous next)
+      pub insert-far : lt cost billionth-bits ≡ false → r ≡ bridgesOf (traced previous next [] (routeStates (net .graph) previous side next side′)) → r ≡ bridgesOf (between net previous next)
       unfolding between betweenSides ofBits
       insert-far e h = rw (sym told ∙ found, e) h

@@ -1,7 +1,7 @@
 -- What is answered of a route whose states go into a buffer of 4,096: its states where there is a route, and never a refusal by 15. Assumes nothing.
-use mathlib.Core.Path.{_≡_, refl, sym, ap, _∙_}
+use mathlib.Core.Path.{_≡_, refl, sym, _∙_}
 use mathlib.Core.List.{List, [], _++_}
-use Prim.Native.Nat.{ℕ, _*_, _≤_}
+use Prim.Native.Nat.{ℕ, _≤_}
 use native.Mathlib.Omega.{arith}
 use lib.ListN.{length, take, drop, length-append, length-drop, length-replicate}
 use lib.Seq.{take-append-seam}
@@ -12,7 +12,7 @@ use Rattle.routing.specs.declared.route.Route.{Route}
 use Rattle.routing.specs.declared.route.Route.the-variants.{Cost, Unreachable}
 use Rattle.routing.specs.declared.route.Listing.{Listing}
 use Rattle.routing.specs.declared.route.Listing.the-variants.{Listed, NoRoute, Refused}
-use Rattle.routing.specs.Network.{Network, count, checked}
+use Rattle.routing.specs.Network.{Network, checked}
 use Rattle.routing.specs.Route.{route, routeStates, listingOf, listingBy, listing, stored}
 use Rattle.routing.proofs.Accepted.{accepted-sound}
 use Rattle.bridges.specs.declared.insert.Bridges.{Bridges}

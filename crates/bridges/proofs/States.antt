@@ -1,7 +1,7 @@
 -- The states of a route: none without a route, at most four per element, and each one of the network. Assumes nothing.
-use mathlib.Core.Path.{_≡_, refl, sym, ap, _∙_}
+use mathlib.Core.Path.{_≡_, refl}
 use mathlib.Core.Bool.{Bool, true, false, cond, _&&_}
-use mathlib.Core.List.{List, [], _∷_, reverse, reverseAux}
+use mathlib.Core.List.{List, [], _∷_, reverseAux}
 use mathlib.Core.Logic.{inl, ⊎-elim}
 use Prim.Native.Nat.{ℕ, zero, suc, _*_, _<_, _≤_}
 use native.Mathlib.Omega.{arith}
@@ -18,8 +18,7 @@ use Rattle.routing.specs.declared.route.Route.the-variants.{Cost, Unreachable}
 use Rattle.routing.specs.Network.{Network, Graph, count, checked}
 use Rattle.routing.specs.Walks.{node, Walk, start, onward}
 use Rattle.routing.specs.Search.{Search, Ended, searched}
-use Rattle.routing.specs.Sound.{Sound}
-use Rattle.routing.specs.Route.{knownSide, endCost, costOfEnd, route, unless, stepsBack, back, endStates, statesOfEnd, routeStates}
+use Rattle.routing.specs.Route.{knownSide, endCost, costOfEnd, route, unless, stepsBack, endStates, statesOfEnd, routeStates}
 use Rattle.routing.specs.Promise.{Cheapest}
 use Rattle.routing.proofs.Accepted.{accepted-sound}
 use Rattle.routing.proofs.Routes.{length-back, known-node}
@@ -64,6 +63,7 @@ states-none g element side element′ side′ = go (knownSide (count g) element 
   where
     end : Ended
     end = searched g (node element side) (node element′ side′)
+
     go : (b : Bool) → cond b (endCost (end .pick) (end .search)) Unreachable ≡ Unreachable →
         cond b (endStates (2 * node element side) (4 * count g) (end .pick) (end .search)) [] ≡ []
     go true e = end-none _ _ _ _ e
@@ -93,6 +93,7 @@ module _ (net : Network) (accepted : checked net ≡ Accepted) where
       where
         known : knownSide (count (net .graph)) element side ≡ true → Each Inside (routeStates (net .graph) element side element′ side′)
         known k = cheapest-states (omega (arith, known-node (count (net .graph)) element side k)) (accepted-promise net accepted element side element′ side′ .cost c e)
+
         unknown : knownSide (count (net .graph)) element side ≡ false → Each Inside (routeStates (net .graph) element side element′ side′)
         unknown u = absurd (let none = accepted-promise net accepted element side element′ side′ .unknown (inl u) in let z : _≡_ {A = ℕ} 0 1 = cc in omega arith)
 

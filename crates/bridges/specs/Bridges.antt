@@ -1,7 +1,7 @@
 -- The elements between two groups of a path (document 01, "Segment"): "Between groups the cheapest side pair is taken, first of equals. No route, or
 -- cost below 1e-9: no bridge. Otherwise each other element of the route, once".
 use Prim.Native.Nat.{ℕ, _/_}
-use mathlib.Core.Bool.{Bool, true, false, cond, _||_}
+use mathlib.Core.Bool.{Bool, false, cond, _||_}
 use mathlib.Core.List.{List, [], _∷_, _++_}
 use lib.Dec.{eqb}
 use lib.Ieee.{lt}

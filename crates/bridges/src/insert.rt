@@ -21,7 +21,8 @@ pub struct Bridges {
     pub elements: [u32; 1024],
 }
 
-// The other elements along the cheapest route from a side of one element to a side of another.
+// The other elements along the cheapest route from a side of one element to a side of another, in a network that was checked. Its routes have at most
+// 4,096 states, so listing one is never refused.
 fn trace_intermediate_netelements(
     lengths: &[f64],
     headings: &[f64],
@@ -82,7 +83,17 @@ pub fn insert_bridges(
     ensures { λ r. ⌜ r ≡ bridgesOf (between (networkOf (now (lengths .entry)) (now (headings .entry)) (now (flags .entry)) (now (from .entry)) (now (to .entry)) (now («from_side» .entry)) (now («to_side» .entry)) (now (forward .entry)) (now (backward .entry))) previous next) ⌝ }
 {
     let routes = routes_between(
-        lengths, headings, flags, from, to, from_side, to_side, forward, backward, previous, next,
+        lengths,
+        headings,
+        flags,
+        from,
+        to,
+        from_side,
+        to_side,
+        forward,
+        backward,
+        previous,
+        next,
     );
     let best = cheapest_sides(routes);
     match best {
@@ -91,8 +102,19 @@ pub fn insert_bridges(
                 return no_bridges();
             }
             trace_intermediate_netelements(
-                lengths, headings, flags, from, to, from_side, to_side, forward, backward,
-                previous, leaving, next, entering,
+                lengths,
+                headings,
+                flags,
+                from,
+                to,
+                from_side,
+                to_side,
+                forward,
+                backward,
+                previous,
+                leaving,
+                next,
+                entering,
             )
         }
         Cheapest::Nothing => no_bridges(),

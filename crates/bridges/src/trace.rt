@@ -43,13 +43,7 @@ fn is_among(elements: &[u32; 1024], count: usize, element: u32) -> bool
 }
 
 // Whether an element is no bridge: it is one of the two ends, or there already.
-fn is_barred(
-    elements: &[u32; 1024],
-    count: usize,
-    previous: u32,
-    next: u32,
-    element: u32,
-) -> bool
+fn is_barred(elements: &[u32; 1024], count: usize, previous: u32, next: u32, element: u32) -> bool
     requires { ⌜ (count ≤ 1024) × (length (now elements) ≡ 1024) ⌝ }
     ensures { λ r. ⌜ r ≡ barred previous next (take count (now (elements .entry))) element ⌝ }
 {

@@ -21,8 +21,7 @@ elements-of-requires c κs =
     let start = c .before .before .before .before .before .before .before .before .before .before .before .before .before .before .before .before .before in
     let begun = c .before .before .before .before .before .before .before .no-states .ensures in
     let listed = c .before .before .before .before .before .shortest-path-route .ensures in
-    let found = c .before .before .listing .given .1 in
-    (
+    let found = c .before .before .listing .given .1 in (
       (listed-room _ (start .pre) _ _ _ _ begun (listed .0) (listed .1) _ _ found, listed-long _ (start .pre) _ _ _ _ begun (listed .0) (listed .1) _ _ found),
       listed-short _ (start .pre) _ _ _ _ begun (listed .0) (listed .1) _ _ found,
     )
