@@ -1,5 +1,5 @@
 // The step score: how well one candidate of a fix follows one of its predecessor.
 mod pair;
 mod place;
-mod routes;
+pub mod routes;
 pub mod step;
