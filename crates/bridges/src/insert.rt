@@ -2,7 +2,7 @@
 use crate::sides::Cheapest;
 use crate::sides::cheapest_sides;
 use crate::trace::elements_of;
-use crate::trace::no_bridges;
+use crate::trace::no_elements;
 use crate::trace::no_states;
 use routing::network::Checked;
 use routing::route::Listing;
@@ -19,6 +19,15 @@ ghost use Rattle.bridges.specs.Found.{bridgesOf};
 pub struct Bridges {
     pub count: usize,
     pub elements: [u32; 1024],
+}
+
+pub fn no_bridges() -> Bridges
+    ensures { λ r. ⌜ r ≡ bridgesOf [] ⌝ }
+{
+    Bridges {
+        count: 0,
+        elements: no_elements(),
+    }
 }
 
 // The other elements along the cheapest route from a side of one element to a side of another, in a network that was checked. Its routes have at most

@@ -35,7 +35,7 @@ use Rattle.closing.proofs.Steps.{obey-low, obey-room, first-all}
 
 -- ---- the pairs in row order
 
-map-back : {A B : Type 0} (f : A → B) (l r : List A) → map f (reverseAux l r) ≡ reverseAux (map f l) (map f r)
+pub map-back : {A B : Type 0} (f : A → B) (l r : List A) → map f (reverseAux l r) ≡ reverseAux (map f l) (map f r)
 map-back f [] r = refl
 map-back f (a ∷ l) r = map-back f l (a ∷ r)
 
@@ -127,7 +127,7 @@ module _ (s : List ℕ) (rows used place count : ℕ) (h : Scoring s rows used p
       enters = λ _. rw (all-rows, last .is, is-best) (best-below (last .latest) (obey-low (last .latest) (last .earlier) obeys) (latest-scores (standing s) (last .latest) (last .is)));
     }
 
-    closing-is : closing (standing s) ≡ path (reverse (pathFrom s (begin rows used best))) (best .score)
+    pub closing-is : closing (standing s) ≡ path (reverse (pathFrom s (begin rows used best))) (best .score)
     unfolding closing
     closing-is = rw (last .is, all-rows, is-best)
 

@@ -1,3 +1,4 @@
 -- Laws of the definitions of `specs/`.
 pub mod Onto
 pub mod Reading
+pub mod Closed

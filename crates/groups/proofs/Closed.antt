@@ -1,0 +1,17 @@
+-- The groups of the best path are those that the walk back reads. Assumes nothing.
+use Prim.Native.Nat.{ℕ}
+use mathlib.Core.Path.{_≡_, sym, ap, _∙_}
+use mathlib.Core.List.{List, [], map, reverse}
+use lib.Ieee.{Float}
+use Rattle.journal.specs.Row.{Row}
+use Rattle.decoder.specs.Closing.{Closed, path}
+use Rattle.closing.specs.declared.walk.Back.{Back}
+use Rattle.closing.specs.Walk.{standing, pathFrom}
+use Rattle.closing.proofs.Closing.{map-back}
+use Rattle.groups.specs.Groups.{State, stateAt, groups, groupsClosed}
+use Rattle.groups.specs.Gather.{statesFrom, groupsFrom}
+use Rattle.groups.proofs.Onto.{onto-groups}
+
+pub closed-groups : (s : List ℕ) (b : Back) (score : Float) {c : Closed} → c ≡ path (reverse (pathFrom s b)) score → groupsClosed (standing s) c ≡ groupsFrom s b
+unfolding groupsClosed
+closed-groups s b score e = rw e (ap groups (map-back (stateAt (standing s)) (pathFrom s b) []) ∙ sym (onto-groups (statesFrom s b)))
