@@ -25,6 +25,10 @@ use Rattle.transition.specs.declared.step.Settings.{Settings}
 use Rattle.transition.specs.Step.{neitherNear, stepScore, transition}
 use Rattle.rows.specs.Row.{firstBest, lastBest, floor, floored, offer, broken, scored, row, rows}
 use Rattle.decoder.specs.Closing.{Closed, path, follow as followParents, closing}
+use Rattle.segments.specs.declared.segment.Segment.{Segment}
+use Rattle.segments.specs.declared.collapse.Collapsed.the-variants.{Done}
+use Rattle.segments.specs.Segment.{zeroSegment, sound}
+use Rattle.segments.specs.Collapse.{lastRow, span, oscillates, merged, keep, decide, seek, step, passIn, pass, repeat, passesIn, passes, withoutOscillations, decisionWords, Outcome, done, outcome, collapsing}
 
 -- ---- elements 0, 1, 2 of 100, 50, 100 m
 
@@ -128,3 +132,32 @@ pub dump : journal (rows (transition line settings) (one (candidate 0 1 minusOne
     ≡ 0x5000000B ∷ 0x10000001 ∷ 0x2000FC00 ∷ 0x3FE00000 ∷ 0x00000000 ∷ 0xBFF00000 ∷ 0x00000000 ∷ 0xBFF00000 ∷ 0x00000000 ∷ 0x30000000 ∷ 0x4000000A ∷ []
 unfolding journal words recordOf recordLength rows row scored number predecessor scores toBits
 dump = refl
+
+-- ---- collapsing: lists of segments, and what the call leaves
+
+-- an element from end to end, with its rows
+abbrev segment : ℕ → ℕ → ℕ → Segment
+segment element first last = record { element = element; «start_intrinsic» = pzero; «end_intrinsic» = fin false 1 (pos 0); «first_row» = first; «last_row» = last }
+
+-- element 0 in rows 0 to 2, element 1 from row 3 to a last one, and back
+abbrev detour : ℕ → List Segment
+detour last = segment 0 0 2 ∷ segment 1 3 last ∷ segment 0 14 15 ∷ []
+
+abbrev fourBetween : List Segment
+fourBetween = segment 0 0 20 ∷ segment 1 21 21 ∷ segment 2 22 22 ∷ segment 3 23 23 ∷ segment 4 24 24 ∷ segment 0 25 30 ∷ []
+
+-- into a buffer of as many decisions as there are segments
+unfoldable pub collapses : List Outcome
+collapses =
+    collapsing (detour 13) (replicate 18 7)
+    ∷ collapsing (detour 12) (replicate 18 7)
+    ∷ collapsing fourBetween (replicate 36 7)
+    ∷ []
+
+pub segments : collapses
+    ≡ record { answer = Done 3 0; segments = detour 13; decisions = replicate 18 7 }
+    ∷ record { answer = Done 1 1; segments = segment 0 0 15 ∷ zeroSegment ∷ zeroSegment ∷ []; decisions = 0 ∷ 9 ∷ 1 ∷ 1 ∷ 0 ∷ 0 ∷ replicate 12 7 }
+    ∷ record { answer = Done 6 0; segments = fourBetween; decisions = replicate 36 7 }
+    ∷ []
+unfolding collapses collapsing outcome done sound inRange le withoutOscillations passes passesIn repeat pass passIn step seek keep decide oscillates span lastRow merged decisionWords
+segments = refl

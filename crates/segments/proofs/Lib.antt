@@ -1,6 +1,21 @@
--- Laws of the definitions of `specs/`.
-pub mod Lists
-pub mod Groups
+-- Laws of the definitions of `specs/`: of building, then of collapsing.
+pub mod BuildLists
+pub mod BuildGroups
+pub mod BuildTurns
+pub mod BuildOpening
+pub mod BuildStoring
+pub mod Phases
+pub mod Passes
+pub mod Gaps
+pub mod Invariant
+pub mod Underway
+pub mod Coming
+pub mod Turned
+pub mod Checks
+pub mod Seeking
+pub mod Looks
+pub mod Keeps
 pub mod Turns
-pub mod Opening
-pub mod Storing
+pub mod Lending
+pub mod Facts
+pub mod Entry14

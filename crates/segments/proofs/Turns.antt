@@ -1,97 +1,99 @@
--- A turn of building: the last of the segments that are left. Assumes nothing.
-use Prim.Native.Nat.{ℕ, suc, _+_, _-_, _<_, _≤_}
+-- The laws that the walk cites: collapsing, turn by turn, does what the definition says.
+use Prim.Native.Nat.{ℕ, suc, _/_, _<_, _≤_}
 use native.Mathlib.Omega.{arith}
-use mathlib.Core.Path.{_≡_, refl, sym, ap, _∙_}
-use mathlib.Core.Bool.{Bool, true, false, cond}
-use mathlib.Core.List.{List, [], _∷_, _++_, map, append-assoc, append-nil}
-use mathlib.Core.Logic.{_⊎_, inl, inr}
-use lib.ListN.{length, getD, take, drop, set, replicate, length-append, length-map}
-use lib.Seq.{take-suc, take-append-seam}
-use Rattle.lists.proofs.Loops.{two, clash}
-use Rattle.routing.specs.Network.{Network}
-use Rattle.bridges.specs.declared.insert.Bridges.{Bridges}
-use Rattle.bridges.specs.Found.{bridgesOf}
-use Rattle.closing.specs.Walk.{Reached}
+use mathlib.Core.Path.{_≡_, refl, sym, ap, subst, _∙_}
+use mathlib.Core.Bool.{Bool, cond}
+use mathlib.Core.List.{List, [], _∷_}
+use borrow.Author.Tests.{ne-eqb, le-leb}
+use lib.ListN.{length, getD, set}
+use Rattle.segments.specs.Segment.{zeroSegment}
+use Rattle.segments.specs.Collapse.{withoutOscillations, done, outcome, collapsing}
+use Rattle.segments.specs.Turn.{begun, phased, turned, turnedWords, Ready, finished}
 use Rattle.segments.specs.declared.segment.Segment.{Segment}
-use Rattle.segments.specs.declared.trail.Trail.{Trail}
-use Rattle.segments.specs.declared.build.Building.{Building}
-use Rattle.segments.specs.Build.{segmentOf, bridge, built}
-use Rattle.segments.specs.Trail.{groupsLeft, Stepped}
-use Rattle.segments.specs.Building.{toCome, endOf, Stands, Onward, Turned}
-use Rattle.segments.proofs.Groups.{left-more, found-count, found-few, found-taken, found-inside}
+use Rattle.segments.specs.declared.turn.Stage.{Stage}
+use Rattle.segments.proofs.Phases.{turned-check, turned-load, turned-look, turned-keep, turned-clear, words-look, words-stay}
+use Rattle.segments.proofs.Invariant.{Inv, InPhase, over, checking, loading, looking, keeping, clearing, ofCheck, coming, comingIn, turnsLeft}
+use Rattle.segments.proofs.Coming.{coming-check}
+use Rattle.segments.proofs.Turned.{Turned}
+use Rattle.segments.proofs.Checks.{check-turned}
+use Rattle.segments.proofs.Looks.{load-turned, look-turned}
+use Rattle.segments.proofs.Keeps.{keep-turned, clear-turned}
 
-map-snoc : (f : ℕ → Segment) (l : List ℕ) (x : ℕ) → map f (l ++ (x ∷ [])) ≡ map f l ++ (f x ∷ [])
-map-snoc f [] x = refl
-map-snoc f (y ∷ l) x = ap (λ (k : List Segment). f y ∷ k) (map-snoc f l x)
+-- the entry that a turn reads
+abbrev pub entry : Stage → List Segment → Segment
+entry s l = getD l (s .at) zeroSegment
 
--- so much of a list is there, past its last entry
-length-snoc : (l k : List Segment) (x : Segment) (n : ℕ) → n ≡ length l → l ≡ k ++ (x ∷ []) → n ≡ suc (length k)
-length-snoc l k x n e q = e ∙ ap length q ∙ length-append k (x ∷ []) ∙ omega arith
+-- the list and the words after a turn
+abbrev pub stored : Stage → List Segment → List Segment
+stored s l = set l (s .at) (turned s (entry s l) .out)
 
--- what a turn leaves, by the list that is then to come
-turned-by : (net : Network) (s : List ℕ) (b r : Building) → Stands net s b
-    → (r .trail .more ≡ true → Reached s (r .trail .back)) → r .waiting ≤ length (r .trail .bridges .elements) → r .waiting ≤ 1024
-    → toCome net s b ≡ toCome net s r ++ (r .out ∷ []) → r .left ≡ b .left - 1 → endOf r ≡ endOf b → Turned net s b r
-turned-by net s b r h reached waits few split left ends =
-    let before = length-snoc (toCome net s b) (toCome net s r) (r .out) (b .left) (h .left) split in
-    record {
-      stands = record { reached = reached; left = omega arith; waits = waits; few = few };
-      split = split;
-      less = omega arith;
-      ends = ends;
-    }
+abbrev pub noted : Stage → List Segment → List ℕ → List ℕ
+noted s l ws = turnedWords s (entry s l) ws
 
-module _ (net : Network) (s : List ℕ) (b : Building) (h : Onward net s b) where
-  -- a bridge waits
-  abbrev bridged : Segment → Building
-  bridged out = record { refusal = b .refusal; count = b .count; left = b .left - 1; waiting = b .waiting - 1; trail = b .trail; out = out }
+-- ---- the first stage
 
-  pub bridge-few : 0 < b .waiting → b .waiting - 1 < 1024
-  bridge-few w = omega (arith, h .stands .few)
+begun-phase : (n m : ℕ) → begun (suc n) m .phase ≡ 1
+unfolding begun
+begun-phase n m = ap (λ (b : Bool). cond b 0 1) (ne-eqb (suc n) 0 (λ e. omega arith))
 
-  pub bridge-turn : 0 < b .waiting → {e : ℕ} → e ≡ getD (b .trail .bridges .elements) (b .waiting - 1) 0 → {out : Segment} → out ≡ bridge (b .trail .group .«last_row») e
-      → Turned net s b (bridged out)
-  bridge-turn w {e} k {out} q =
-      turned-by net s b (bridged out) (h .stands) (h .stands .reached) (omega (arith, h .stands .waits)) (omega (arith, h .stands .few)) split refl (unfold endOf in refl)
+pub begun-inv : (l : List Segment) (ws : List ℕ) → Inv (begun (length l) (length ws)) l ws
+unfolding begun
+begun-inv [] ws = record { sized = refl; phase = over refl }
+begun-inv (v ∷ l) ws = record { sized = refl; phase = checking (begun-phase (length l) (length ws)) (record { here = refl; inside = omega arith; all = refl; start = refl; none-yet = refl; calm = refl; fine = refl; buffer = refl }) }
+
+pub begun-coming : (l : List Segment) (ws : List ℕ) → coming (begun (length l) (length ws)) l ws ≡ collapsing l ws
+unfolding begun coming comingIn ofCheck collapsing outcome done withoutOscillations finished
+begun-coming [] ws = sym (rw (le-leb 0 (length ws / 6) (omega arith)))
+begun-coming (v ∷ l) ws = coming-check (begun (length (v ∷ l)) (length ws)) (v ∷ l) ws (begun-phase (length l) (length ws))
+
+-- ---- a turn
+
+module _ (s : Stage) (l : List Segment) (ws : List ℕ) (g : Inv s l ws) (k : 0 < s .phase) where
+  turn : Turned s l ws (turned s (entry s l)) (noted s l ws)
+  turn = go (g .phase)
     where
-      front : List Segment
-      front = built net (groupsLeft s (b .trail))
+      turned-as : (z : Stage) (us : List ℕ) → turned s (entry s l) ≡ z → noted s l ws ≡ us → Turned s l ws z us → Turned s l ws (turned s (entry s l)) (noted s l ws)
+      turned-as z us p q t = subst (λ (y : Stage). Turned s l ws y (noted s l ws)) (sym p) (subst (λ (y : List ℕ). Turned s l ws z y) (sym q) t)
 
-      taken : take (b .waiting) (b .trail .bridges .elements) ≡ take (b .waiting - 1) (b .trail .bridges .elements) ++ (e ∷ [])
-      taken =
-          let one : suc (b .waiting - 1) ≡ b .waiting = omega arith in
-          ap (λ (n : ℕ). take n (b .trail .bridges .elements)) (sym one) ∙ take-suc (b .trail .bridges .elements) (b .waiting - 1) 0 (omega (arith, h .stands .waits)) ∙ rw k
+      go : InPhase s l (length ws) → Turned s l ws (turned s (entry s l)) (noted s l ws)
+      go (over e) = absurd (omega arith)
+      go (checking e c) = turned-as _ _ (turned-check s (entry s l) e) (words-stay s (entry s l) ws (λ f. omega arith)) (check-turned s l ws (g .sized) e c)
+      go (loading e c) = turned-as _ _ (turned-load s (entry s l) e) (words-stay s (entry s l) ws (λ f. omega arith)) (load-turned s l ws (g .sized) e c)
+      go (looking e c) = turned-as _ _ (turned-look s (entry s l) e) (words-look s (entry s l) ws e) (look-turned s l ws (g .sized) e c)
+      go (keeping e c) = turned-as _ _ (turned-keep s (entry s l) e) (words-stay s (entry s l) ws (λ f. omega arith)) (keep-turned s l ws (g .sized) e c)
+      go (clearing e c) = turned-as _ _ (turned-clear s (entry s l) e) (words-stay s (entry s l) ws (λ f. omega arith)) (clear-turned s l ws (g .sized) e c)
 
-      split : toCome net s b ≡ toCome net s (bridged out) ++ (out ∷ [])
-      split =
-          ap (λ (l : List ℕ). front ++ map (bridge (b .trail .group .«last_row»)) l) taken
-          ∙ ap (λ (l : List Segment). front ++ l) (map-snoc (bridge (b .trail .group .«last_row»)) (take (b .waiting - 1) (b .trail .bridges .elements)) e)
-          ∙ sym (append-assoc front (map (bridge (b .trail .group .«last_row»)) (take (b .waiting - 1) (b .trail .bridges .elements))) (bridge (b .trail .group .«last_row») e ∷ []))
-          ∙ rw q
+  pub turn-at : s .at < length l
+  turn-at = go (g .phase)
+    where
+      go : InPhase s l (length ws) → s .at < length l
+      go (over e) = absurd (omega arith)
+      go (checking e c) = omega (arith, g .sized, c .here, c .inside)
+      go (loading e c) = omega (arith, g .sized, c .here, c .inside, c .passing .room)
+      go (looking e c) = omega (arith, g .sized, c .here, c .inside, c .passing .room)
+      go (keeping e c) = omega (arith, g .sized, c .here, c .passing .behind, c .passing .within, c .passing .room)
+      go (clearing e c) = omega (arith, g .sized, c .here, c .inside)
 
-  -- none does
-  module _ (w : b .waiting ≡ 0) where
-    pub group-more : b .trail .more ≡ true
-    unfolding built
-    group-more = go (b .trail .more) refl
-      where
-        go : (m : Bool) → b .trail .more ≡ m → m ≡ true
-        go true e = refl
-        go false e =
-            let none-left : length (toCome net s b) ≡ 0 = rw (e, w) in
-            absurd (omega (arith, none-left, h .stands .left, h .more))
+  pub turn-ready : Ready s (length ws)
+  unfolding Ready phased
+  turn-ready = go (g .phase)
+    where
+      go : InPhase s l (length ws) → Ready s (length ws)
+      go (over e) = absurd (omega arith)
+      go (checking e c) = rw e (c .inside)
+      go (loading e c) = rw e (c .inside)
+      go (looking e c) = rw e (c .small, c .inside, omega (arith, c .passing .few), omega (arith, c .passing .few, c .passing .buffer))
+      go (keeping e c) = rw e (omega (arith, c .passing .behind), c .passing .within, c .passing .room)
+      go (clearing e c) = rw e (c .inside)
 
-    pub group-reached : Reached s (b .trail .back)
-    group-reached = h .stands .reached group-more
+  pub turn-inv : Inv (turned s (entry s l)) (stored s l) (noted s l ws)
+  turn-inv = subst (λ (y : List Segment). Inv (turned s (entry s l)) y (noted s l ws)) (sym (turn .put)) (turn .inv)
 
-    abbrev grouped : Trail → Segment → Building
-    grouped t out = record { refusal = b .refusal; count = b .count; left = b .left - 1; waiting = t .bridges .count; trail = t; out = out }
+  pub turn-coming : coming (turned s (entry s l)) (stored s l) (noted s l ws) ≡ coming s l ws
+  turn-coming = ap (λ (y : List Segment). coming (turned s (entry s l)) y (noted s l ws)) (turn .put) ∙ turn .same
 
-    pub group-turn : {t : Trail} → Stepped net s (b .trail) t → {out : Segment} → out ≡ segmentOf (b .trail .group) → Turned net s b (grouped t out)
-    group-turn {t} k {out} q =
-        turned-by net s b (grouped t out) (h .stands) (λ _. k .reached) (found-inside net s (b .trail) t k) (omega (arith, found-count net s (b .trail) t k, found-few net s (b .trail) t k)) split refl (unfold endOf in refl)
-      where
-        split : toCome net s b ≡ toCome net s (grouped t out) ++ (out ∷ [])
-        split =
-            let no-bridges : toCome net s b ≡ built net (groupsLeft s (b .trail)) = rw w (append-nil (built net (groupsLeft s (b .trail)))) in
-            no-bridges ∙ left-more net s (b .trail) t k group-more ∙ rw (found-taken net s (b .trail) t k, q)
+  pub turn-less : turnsLeft (turned s (entry s l)) < turnsLeft s
+  turn-less = turn .less
+
+  pub turn-long : length (noted s l ws) ≡ length ws
+  turn-long = turn .long

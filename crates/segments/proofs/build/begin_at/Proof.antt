@@ -5,7 +5,7 @@ use Rattle.journal.proofs.Stores.{take-rest}
 use Rattle.closing.proofs.Closing.{last-inside, last-stands, begin-reached}
 use Rattle.segments.proofs.build.begin_at.Statement.{statement}
 use Rattle.segments.proofs.build.begin_at.Tie as tie
-use Rattle.segments.proofs.Opening.{opened-full, opened-all}
+use Rattle.segments.proofs.BuildOpening.{opened-full, opened-all}
 
 mul-best-previous : tie.Need-mul-best-previous
 mul-best-previous c = omega (arith, last-inside _ _ _ _ _ (c .before .before .before .before .before .before .before .before .before .before .pre))

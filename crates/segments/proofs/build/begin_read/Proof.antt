@@ -7,7 +7,7 @@ use Rattle.routing.proofs.Accepted.{accepted-counts}
 use Rattle.closing.proofs.Closing.{last-found}
 use Rattle.segments.proofs.build.begin_read.Statement.{statement}
 use Rattle.segments.proofs.build.begin_read.Tie as tie
-use Rattle.segments.proofs.Opening.{rows-stand, opened-not, opened-unknown, opened-nothing, opened-from}
+use Rattle.segments.proofs.BuildOpening.{rows-stand, opened-not, opened-unknown, opened-nothing, opened-from}
 
 read-journal-requires : tie.Need-read-journal-requires
 read-journal-requires c κs = search needs

@@ -4,7 +4,7 @@ use native.Mathlib.Omega.{arith}
 use mathlib.Core.Path.{refl}
 use Rattle.segments.proofs.build.next.Statement.{statement}
 use Rattle.segments.proofs.build.next.Tie as tie
-use Rattle.segments.proofs.Turns.{group-reached, group-turn, bridge-few, bridge-turn}
+use Rattle.segments.proofs.BuildTurns.{group-reached, group-turn, bridge-few, bridge-turn}
 
 sub-waiting : tie.Need-sub-waiting
 sub-waiting c = search needs

@@ -5,7 +5,7 @@ use Prim.Native.Nat.{suc}
 use Rattle.routing.specs.Network.{networkOf}
 use Rattle.segments.proofs.trail.count_segments.Statement.{statement}
 use Rattle.segments.proofs.trail.count_segments.Tie as tie
-use Rattle.segments.proofs.Groups.{Counting, counting-begin, counting-turn, counting-end, counting-less}
+use Rattle.segments.proofs.BuildGroups.{Counting, counting-begin, counting-turn, counting-end, counting-less}
 
 abbrev Inv-loop : tie.InvT-loop
 Inv-loop lengths headings flags from to from-side to-side forward backward journal t₀ n₀ t n = Counting (networkOf lengths headings flags from to from-side to-side forward backward) journal t₀ n t

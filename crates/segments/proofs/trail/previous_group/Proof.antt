@@ -2,7 +2,7 @@
 use borrow.Author.Needs.{needs}
 use Rattle.segments.proofs.trail.previous_group.Statement.{statement}
 use Rattle.segments.proofs.trail.previous_group.Tie as tie
-use Rattle.segments.proofs.Groups.{stepped-on, stepped-off}
+use Rattle.segments.proofs.BuildGroups.{stepped-on, stepped-off}
 
 last-group-requires : tie.Need-last-group-requires
 last-group-requires c κs = search needs

@@ -24,7 +24,7 @@ use Rattle.segments.specs.declared.segment.Segment.{Segment}
 use Rattle.segments.specs.declared.trail.Trail.{Trail}
 use Rattle.segments.specs.Build.{segmentOf, bridge, bridges, built}
 use Rattle.segments.specs.Trail.{groupsLeft, Begun, Stepped}
-use Rattle.segments.proofs.Lists.{built-more}
+use Rattle.segments.proofs.BuildLists.{built-more}
 
 -- ---- a step
 
