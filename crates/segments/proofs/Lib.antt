@@ -4,6 +4,9 @@ pub mod BuildGroups
 pub mod BuildTurns
 pub mod BuildOpening
 pub mod BuildStoring
+pub mod Shared
+pub mod Slices
+pub mod Enter18
 pub mod Phases
 pub mod Passes
 pub mod Gaps

@@ -21,7 +21,7 @@ ghost use lib.ListN.{length};
 ghost use Rattle.routing.specs.Network.{networkOf, checked};
 ghost use Rattle.closing.specs.Walk.{Reached};
 ghost use Rattle.closing.specs.Close.{Scoring};
-ghost use Rattle.segments.specs.Build.{segmentOf, bridge};
+ghost use Rattle.segments.specs.Build.{segmentOf, bridge, building, answered, stored};
 ghost use Rattle.segments.specs.Building.{refusing, endOf, Onward, Opened, OpenedAt, Turned};
 
 // How many segments were stored, or a refusal's number.
@@ -320,4 +320,55 @@ fn finish(b: Building) -> Built
         return Built::Segments(b.count);
     }
     Built::Refused(b.refusal)
+}
+
+// The segments of the best path, a segment for each group of states and the bridges between them, in row order, into the first entries of the list; or a
+// refusal by checks 1 to 5, 7, 9, or by 15 where the list has fewer entries than there are segments. Entries past the segments keep what they held.
+pub fn build_path_from_viterbi(
+    lengths: &[f64],
+    headings: &[f64],
+    flags: &[u32],
+    from: &[u32],
+    to: &[u32],
+    from_side: &[u32],
+    to_side: &[u32],
+    forward: &[u32],
+    backward: &[u32],
+    journal: &[u32],
+    segments: &mut [Segment],
+) -> Built
+    ensures { λ r. ⌜ r ≡ answered (building (networkOf (now (lengths .entry)) (now (headings .entry)) (now (flags .entry)) (now (from .entry)) (now (to .entry)) (now («from_side» .entry)) (now («to_side» .entry)) (now (forward .entry)) (now (backward .entry))) (now (journal .entry)) (length (now (segments .entry)))) ⌝ }
+    ensures { λ r. ⌜ now (segments .exit) ≡ stored (building (networkOf (now (lengths .entry)) (now (headings .entry)) (now (flags .entry)) (now (from .entry)) (now (to .entry)) (now («from_side» .entry)) (now («to_side» .entry)) (now (forward .entry)) (now (backward .entry))) (now (journal .entry)) (length (now (segments .entry)))) (now (segments .entry)) ⌝ }
+{
+    let mut b = begin(
+        lengths,
+        headings,
+        flags,
+        from,
+        to,
+        from_side,
+        to_side,
+        forward,
+        backward,
+        journal,
+        segments.len(),
+    );
+    while 0 < b.left {
+        b = next(
+            lengths,
+            headings,
+            flags,
+            from,
+            to,
+            from_side,
+            to_side,
+            forward,
+            backward,
+            journal,
+            b,
+        );
+        let at = b.left;
+        segments[at] = b.out;
+    }
+    finish(b)
 }
