@@ -8,6 +8,7 @@ use mathlib.Core.Option.{some}
 use borrow.Author.Tests.{le-leb, lt-leb}
 use lib.Dec.{T, leb}
 use lib.ListN.{length, drop, length-drop, length-reverse}
+use Rattle.lists.proofs.Lists.{map-back}
 use Rattle.binary64.proofs.Order.{taken}
 use Rattle.journal.specs.Row.{Row, size, scores, predecessor}
 use Rattle.journal.specs.Record.{recordOf, readRow}
@@ -34,10 +35,6 @@ use Rattle.closing.proofs.Best.{best-below}
 use Rattle.closing.proofs.Steps.{obey-low, obey-room, first-all}
 
 -- ---- the pairs in row order
-
-pub map-back : {A B : Type 0} (f : A → B) (l r : List A) → map f (reverseAux l r) ≡ reverseAux (map f l) (map f r)
-map-back f [] r = refl
-map-back f (a ∷ l) r = map-back f l (a ∷ r)
 
 length-order : (w : Pairs) (n : ℕ) → n ≡ 0 + length w → n ≡ length (reverse w)
 length-order w n e = omega (arith, length-reverse w)

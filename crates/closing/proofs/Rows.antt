@@ -9,15 +9,15 @@ use lib.ListN.{length, getD, drop, length-map, List·getD-map, length-drop}
 use lib.Seq.{drop-drop, drop-cons}
 use lib.Ieee.{Float, nan}
 use Rattle.journal.specs.Row.{Cell, noCell, size, cellOf}
-use Rattle.journal.specs.Record.{floatAt, readDistance, readEach, recordLength, readRow}
+use Rattle.journal.specs.Record.{floatAt, readDistance, recordLength, readRow}
 use Rattle.journal.specs.Journal.{words}
 use Rattle.journal.specs.Call.{Standing, endRead, endOf}
 use Rattle.journal.specs.Check.{survey}
 use Rattle.journal.specs.declared.check.Predecessor.{Predecessor}
 use Rattle.journal.specs.declared.check.Survey.the-variants.{NotWellFormed, WellFormed}
 use Rattle.journal.specs.WellFormed.{Obey}
-use Rattle.journal.proofs.Tests.{drop-float, cell-at}
-use Rattle.journal.proofs.Records.{row-size, row-cell}
+use Rattle.journal.proofs.Tests.{cell-at}
+use Rattle.journal.proofs.Records.{length-each, row-size, row-cell, row-distance}
 use Rattle.journal.proofs.Reading.{length-record}
 use Rattle.journal.proofs.Ends.{Surveyed, survey-rows, survey-no, struck-stand}
 use Rattle.journal.proofs.Places.{row-obeys, row-at, row-inside}
@@ -27,20 +27,6 @@ use Rattle.closing.specs.declared.row.RowRead.the-variants.{Row as RowAn
 use Rattle.closing.proofs.Buffers.{entries-listed}
 
 -- ---- the fields of the row, by their places
-
-module _ {A : Type 0} (read : List ℕ → A) (m : ℕ) where
-  length-each : (n : ℕ) (ws : List ℕ) → length (readEach read m n ws) ≡ n
-  unfolding readEach
-  length-each zero ws = refl
-  length-each (suc n) ws = ap suc (length-each n (drop m ws))
-
-  getD-each : (n : ℕ) (ws : List ℕ) (i : ℕ) (d : A) → i < n → getD (readEach read m n ws) i d ≡ read (drop (m * i) ws)
-  unfolding readEach
-  getD-each zero ws i d h = absurd (omega arith)
-  getD-each (suc n) ws zero d h = ap (λ (k : ℕ). read (drop k ws)) (sym (mul-zero m))
-  getD-each (suc n) ws (suc i) d h =
-      let plus : m + m * i ≡ m * suc i = rw mul-suc (add-comm m (m * i)) in
-      getD-each n (drop m ws) i d (omega arith) ∙ ap read (drop-drop (m * i) m ws ∙ ap (λ (k : ℕ). drop k ws) plus)
 
 -- the smallest of the buffers, as the code finds it
 pub same-room : (b : Buffers) {m1 m2 m3 m4 m5 : ℕ} → m1 ≡ min (length (b .near)) (length (b .parents)) → m2 ≡ min (length (b .elements)) m1
@@ -71,22 +57,8 @@ module _ (ws : List ℕ) where
   unfolding readRow
   row-number = length-each readDistance 2 (count * (getD ws 0 0 / 32 % 32)) (drop 1 (drop (7 * count) (drop 1 ws)))
 
-  row-distance : (d : Float) (k : ℕ) → k < count * (getD ws 0 0 / 32 % 32) → floatAt ws (2 + 7 * count + 2 * k) ≡ getD (readRow ws .distances) k d
-  unfolding readRow
-  row-distance d k h =
-      let n = count * (getD ws 0 0 / 32 % 32) in
-      let past : drop 1 (drop (7 * count) (drop 1 ws)) ≡ drop (2 + 7 * count) ws = ap (drop 1) (drop-drop (7 * count) 1 ws) ∙ drop-drop 1 (1 + 7 * count) ws ∙ ap (λ (k : ℕ). drop k ws) plus in
-      sym (getD-each readDistance 2 n (drop 1 (drop (7 * count) (drop 1 ws))) k d h
-      ∙ ap (λ (l : List ℕ). readDistance (drop (2 * k) l)) past
-      ∙ drop-float (2 * k) 0 (drop (2 + 7 * count) ws)
-      ∙ drop-float (2 + 7 * count) (2 * k + 0) ws
-      ∙ ap (floatAt ws) none-more)
-    where
-      plus : 1 + 7 * count + 1 ≡ 2 + 7 * count
-      plus = omega arith
-
-      none-more : 2 + 7 * count + (2 * k + 0) ≡ 2 + 7 * count + 2 * k
-      none-more = omega arith
+  float-distance : (d : Float) (k : ℕ) → k < count * (getD ws 0 0 / 32 % 32) → floatAt ws (2 + 7 * count + 2 * k) ≡ getD (readRow ws .distances) k d
+  float-distance d k h = let few : k < size (readRow ws) * readRow ws .before = rw (row-size ws, row-before) h in sym (row-distance ws d k few ∙ rw (row-size ws))
 
   -- a candidate's fields
   abbrev plain : ℕ → Cell
@@ -181,7 +153,7 @@ module _ (ws : List ℕ) where
             let e4 = q4 ∙ column-listed (λ (c : Cell). c .candidate .«raw_log») (λ k. floatAt ws (4 + 7 * k)) (b .rawLogs) (at 3) (each .rawLogs) in
             let e5 = q5 ∙ column-listed (λ (c : Cell). c .parent) (λ k. getD ws (1 + 7 * k) 0 / 2048 % 32) (b .parents) (λ k. refl) (each .parents) in
             let e6 = q6 ∙ column-listed (λ (c : Cell). c .score) (λ k. floatAt ws (6 + 7 * k)) (b .scores) (at 5) (each .scores) in
-            let e7 = q7 ∙ entries-listed nan (readRow ws .distances) (b .distances) (λ k. floatAt ws (2 + 7 * count + 2 * k)) (e ∙ sym row-number) d (λ k i. row-distance nan k (omega arith)) in
+            let e7 = q7 ∙ entries-listed nan (readRow ws .distances) (b .distances) (λ k. floatAt ws (2 + 7 * count + 2 * k)) (e ∙ sym row-number) d (λ k i. float-distance nan k (omega arith)) in
             rw row-fits (rw (e1, e2, e3, e4, e5, e6, e7))
 
 -- ---- a row at its place in the journal

@@ -12,6 +12,7 @@ use lib.ListN.{length, getD, drop, set, length-drop, length-set, drop-of-length-
 use lib.Seq.{drop-cons, drop-set-lt, getD-set-same}
 use lib.Ieee.{Float, inf, fin, nan, le}
 use lib.Ieee.Fits.{and-r}
+use Rattle.lists.proofs.Lists.{drop-stored}
 use Rattle.binary64.specs.Values.{pzero}
 use Rattle.binary64.specs.Ranges.{inRange}
 use Rattle.journal.specs.Row.{Cell, Row, noParent, noCell, size, cellOf, scoreOf, scores, predecessor, sizeOf}
@@ -80,11 +81,6 @@ module _ (r : Row) (rs : List Row) (o : Obey (r ∷ rs)) where
 latest-is : (r : Row) (rs : List Row) → predecessor (r ∷ rs) ≡ cond (scores r) (some r) (predecessor rs)
 unfolding predecessor
 latest-is r rs = refl
-
-drop-stored : (l : List ℕ) (m x : ℕ) → m < length l → drop m (set l m x) ≡ x ∷ drop (suc m) l
-drop-stored l m x h =
-    let k : m < length (set l m x) = simp length-set h in
-    drop-cons (set l m x) m 0 k ∙ rw (getD-set-same l m x 0 h, drop-set-lt (suc m) l m x (omega arith))
 
 drop-length : {A : Type 0} (l : List A) → drop (length l) l ≡ []
 drop-length l = drop-of-length-le l (le-refl (length l))

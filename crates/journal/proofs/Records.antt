@@ -2,7 +2,7 @@
 use Prim.Native.Nat.{ℕ, zero, suc, _+_, _-_, _*_, _/_, _<_, _≤_}
 use native.Mathlib.Omega.{arith}
 use native.Mathlib.Nat.{mul-zero, mul-suc, add-comm}
-use mathlib.Core.Path.{_≡_, refl, sym, ap, _∙_, subst, fun-ext}
+use mathlib.Core.Path.{_≡_, refl, sym, ap, _∙_, subst}
 use mathlib.Core.Bool.{Bool, true, false, _&&_}
 use mathlib.Core.List.{List, [], _∷_, _++_}
 use lib.Dec.{T, leb, eqb, leb→le, le→leb, eqb→eq}
@@ -12,6 +12,7 @@ use lib.Ieee.{Float}
 use lib.Ieee.Scale.{finite}
 use lib.Ieee.Fits.{and-i, and-l, and-r, eq→eqb}
 use Rattle.lists.specs.Loops.{any, every}
+use Rattle.lists.proofs.Loops.{and-assoc, every-front, every-same, any-same}
 use Rattle.binary64.proofs.Order.{same-test}
 use Rattle.journal.specs.Lists.{all, flat, starts}
 use Rattle.journal.specs.Row.{Cell, Row, noCell, size, cellOf, scoreOf, scores, beforeOf}
@@ -27,32 +28,11 @@ use Rattle.journal.proofs.Tests.{drop-first, drop-float}
 
 -- ---- tests in another order
 
-and-true : (a : Bool) → a && true ≡ a
-and-true true = refl
-and-true false = refl
-
-and-assoc : (a b c : Bool) → (a && b) && c ≡ a && (b && c)
-and-assoc true b c = refl
-and-assoc false b c = refl
-
 crossed : (a b c d : Bool) → (a && b) && (c && d) ≡ (a && c) && (b && d)
 crossed true true c d = refl
 crossed true false true d = refl
 crossed true false false d = refl
 crossed false b c d = refl
-
-every-front : (n : ℕ) (test : ℕ → Bool) → every (suc n) test ≡ test 0 && every n (λ k. test (suc k))
-unfolding every
-every-front zero test = sym (and-true (test 0))
-every-front (suc n) test = rw (every-front n test) (and-assoc (test 0) (every n (λ k. test (suc k))) (test (suc n)))
-
-every-same : (n : ℕ) (f g : ℕ → Bool) → ((k : ℕ) → f k ≡ g k) → every n f ≡ every n g
-every-same n f g h = ap (every n) (fun-ext h)
-
-any-same : (n : ℕ) (f g : ℕ → Bool) → ((k : ℕ) → k < n → f k ≡ g k) → any n f ≡ any n g
-unfolding any
-any-same zero f g h = refl
-any-same (suc n) f g h = rw (any-same n f g (λ k l. h k (omega arith)), h n (omega arith))
 
 -- ---- words that begin with others
 
@@ -64,7 +44,7 @@ starts-append (x ∷ xs) ys (w ∷ ws) = rw (starts-append xs ys ws) (sym (and-a
 -- ---- entries read one after the other
 
 module _ {A : Type 0} (read : List ℕ → A) (m : ℕ) where
-  length-each : (n : ℕ) (ws : List ℕ) → length (readEach read m n ws) ≡ n
+  pub length-each : (n : ℕ) (ws : List ℕ) → length (readEach read m n ws) ≡ n
   unfolding readEach
   length-each zero ws = refl
   length-each (suc n) ws = ap suc (length-each n (drop m ws))
@@ -74,7 +54,7 @@ module _ {A : Type 0} (read : List ℕ → A) (m : ℕ) where
       let plus : m + m * k ≡ m * suc k = rw mul-suc (add-comm m (m * k)) in
       drop-drop (m * k) m ws ∙ ap (λ (n : ℕ). drop n ws) plus
 
-  getD-each : (n : ℕ) (ws : List ℕ) (i : ℕ) (d : A) → i < n → getD (readEach read m n ws) i d ≡ read (drop (m * i) ws)
+  pub getD-each : (n : ℕ) (ws : List ℕ) (i : ℕ) (d : A) → i < n → getD (readEach read m n ws) i d ≡ read (drop (m * i) ws)
   unfolding readEach
   getD-each zero ws i d h = absurd (omega arith)
   getD-each (suc n) ws zero d h = ap (λ (k : ℕ). read (drop k ws)) (sym (mul-zero m))
@@ -318,6 +298,21 @@ pub row-score : (ws : List ℕ) (k : ℕ) → k < size (readRow ws) → scoreOf 
 row-score ws k h =
     let plus : 1 + 7 * k + 5 ≡ 6 + 7 * k = omega arith in
     ap (λ (c : Cell). c .score) (row-cell ws k h) ∙ drop-float (1 + 7 * k) 5 ws ∙ ap (floatAt ws) plus
+
+pub row-distance : (ws : List ℕ) (d : Float) (k : ℕ) → k < size (readRow ws) * readRow ws .before → getD (readRow ws .distances) k d ≡ floatAt ws (2 + 7 * size (readRow ws) + 2 * k)
+unfolding readRow
+row-distance ws d k h =
+    let c = headCount (getD ws 0 0) in
+    let p = headBefore (getD ws 0 0) in
+    let l : k < c * p = rw (row-size ws) at h in
+    let place : 1 + 7 * c + 1 + 2 * k + 0 ≡ 2 + 7 * size (readRow ws) + 2 * k = omega (arith, row-size ws) in
+    getD-each readDistance 2 (c * p) (drop 1 (drop (7 * c) (drop 1 ws))) k d l
+    ∙ ap readDistance (
+    ap (λ (xs : List ℕ). drop (2 * k) (drop 1 xs)) (drop-drop (7 * c) 1 ws)
+    ∙ ap (drop (2 * k)) (drop-drop 1 (1 + 7 * c) ws)
+    ∙ drop-drop (2 * k) (1 + 7 * c + 1) ws)
+    ∙ drop-float (1 + 7 * c + 1 + 2 * k) 0 ws
+    ∙ ap (floatAt ws) place
 
 -- ---- what the row reader finds
 

@@ -1,2 +1,3 @@
--- Laws of the loops of `specs/`.
+-- Laws of the loops of `specs/`, and of lists.
 pub mod Loops
+pub mod Lists

@@ -1,5 +1,5 @@
 -- A turn of each loop, and its end; what `every` and `any` tell of each number. Assumes nothing.
-use mathlib.Core.Path.{_≡_, refl, sym, subst, _∙_}
+use mathlib.Core.Path.{_≡_, refl, sym, ap, subst, _∙_, fun-ext}
 use mathlib.Core.Bool.{Bool, true, false, not, _&&_, _||_}
 use mathlib.Core.Logic.{_⊎_, inl, inr, ⊎-elim}
 use Prim.Native.Nat.{ℕ, zero, suc, _+_, _<_, _≤_}
@@ -103,3 +103,26 @@ unfolding any
 any-some zero test h = clash h refl
 any-some (suc n) test h =
     ⊎-elim (λ p. let r = any-some n test p in (r .0, omega (arith, r .1), r .2)) (λ p. (n, omega arith, p)) (or-either (any n test) (test n) h)
+
+-- ---- from the front, and by another test
+
+and-true : (a : Bool) → a && true ≡ a
+and-true true = refl
+and-true false = refl
+
+pub and-assoc : (a b c : Bool) → (a && b) && c ≡ a && (b && c)
+and-assoc true b c = refl
+and-assoc false b c = refl
+
+pub every-front : (n : ℕ) (test : ℕ → Bool) → every (suc n) test ≡ test 0 && every n (λ k. test (suc k))
+unfolding every
+every-front zero test = sym (and-true (test 0))
+every-front (suc n) test = rw (every-front n test) (and-assoc (test 0) (every n (λ k. test (suc k))) (test (suc n)))
+
+pub every-same : (n : ℕ) (f g : ℕ → Bool) → ((k : ℕ) → f k ≡ g k) → every n f ≡ every n g
+every-same n f g h = ap (every n) (fun-ext h)
+
+pub any-same : (n : ℕ) (f g : ℕ → Bool) → ((k : ℕ) → k < n → f k ≡ g k) → any n f ≡ any n g
+unfolding any
+any-same zero f g h = refl
+any-same (suc n) f g h = rw (any-same n f g (λ k l. h k (omega arith)), h n (omega arith))

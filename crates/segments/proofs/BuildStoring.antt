@@ -4,7 +4,7 @@ use native.Mathlib.Omega.{arith}
 use mathlib.Core.Path.{_≡_, refl, sym, ap, _∙_}
 use mathlib.Core.List.{List, [], _∷_, _++_, append-assoc}
 use lib.ListN.{length, getD, drop, set, length-set}
-use lib.Seq.{drop-cons, drop-set-lt, getD-set-same}
+use Rattle.lists.proofs.Lists.{drop-stored}
 use Rattle.routing.specs.Network.{Network}
 use Rattle.segments.specs.declared.segment.Segment.{Segment}
 use Rattle.segments.specs.declared.build.Building.{Building}
@@ -19,11 +19,6 @@ pub record Storing (net : Network) (s : List ℕ) (buffer : List Segment) (b : B
   pub inside : b .left ≤ length buffer
   pub ends : endOf b ≡ answered (building net s (length buffer))
   pub list : toCome net s b ++ drop (b .left) now ≡ stored (building net s (length buffer)) buffer
-
-drop-stored : (l : List Segment) (m : ℕ) (x : Segment) → m < length l → drop m (set l m x) ≡ x ∷ drop (suc m) l
-drop-stored l m x h =
-    let k : m < length (set l m x) = simp length-set h in
-    drop-cons (set l m x) m zeroSegment k ∙ rw (getD-set-same l m x zeroSegment h, drop-set-lt (suc m) l m x (omega arith))
 
 module _ (net : Network) (s : List ℕ) (buffer : List Segment) where
   pub storing-begin : (b : Building) → Opened net s (length buffer) b → Storing net s buffer b buffer

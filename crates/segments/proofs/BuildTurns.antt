@@ -7,6 +7,7 @@ use mathlib.Core.List.{List, [], _∷_, _++_, map, append-assoc, append-nil}
 use mathlib.Core.Logic.{_⊎_, inl, inr}
 use lib.ListN.{length, getD, take, drop, set, replicate, length-append, length-map}
 use lib.Seq.{take-suc, take-append-seam}
+use Rattle.lists.proofs.Lists.{map-snoc}
 use Rattle.lists.proofs.Loops.{two, clash}
 use Rattle.routing.specs.Network.{Network}
 use Rattle.bridges.specs.declared.insert.Bridges.{Bridges}
@@ -19,10 +20,6 @@ use Rattle.segments.specs.Build.{segmentOf, bridge, built}
 use Rattle.segments.specs.Trail.{groupsLeft, Stepped}
 use Rattle.segments.specs.Building.{toCome, endOf, Stands, Onward, Turned}
 use Rattle.segments.proofs.BuildGroups.{left-more, found-count, found-few, found-taken, found-inside}
-
-map-snoc : (f : ℕ → Segment) (l : List ℕ) (x : ℕ) → map f (l ++ (x ∷ [])) ≡ map f l ++ (f x ∷ [])
-map-snoc f [] x = refl
-map-snoc f (y ∷ l) x = ap (λ (k : List Segment). f y ∷ k) (map-snoc f l x)
 
 -- so much of a list is there, past its last entry
 length-snoc : (l k : List Segment) (x : Segment) (n : ℕ) → n ≡ length l → l ≡ k ++ (x ∷ []) → n ≡ suc (length k)

@@ -6,15 +6,13 @@ use mathlib.Core.Path.{_≡_, refl, sym, ap, _∙_}
 use mathlib.Core.Bool.{true, false}
 use mathlib.Core.List.{List}
 use lib.ListN.{length, getD, drop}
-use lib.Seq.{drop-drop}
 use lib.Ieee.{Float}
 use lib.Ieee.Scale.{finite}
 use Rattle.binary64.specs.Values.{pzero}
 use Rattle.journal.specs.Row.{Row, size, cellOf, scoreOf}
 use Rattle.journal.specs.Record.{recordLength, floatAt, readDistance, readEach, headCount, headBefore, readRow}
 use Rattle.journal.specs.declared.record.Candidate.{Candidate}
-use Rattle.journal.proofs.Tests.{drop-float}
-use Rattle.journal.proofs.Records.{row-size}
+use Rattle.journal.proofs.Records.{row-size, row-distance}
 use Rattle.transition.specs.declared.step.Step.{Step}
 use Rattle.transition.specs.declared.step.Step.the-variants.{Impossible}
 use Rattle.rows.specs.Row.{StepScore}
@@ -23,30 +21,6 @@ use Rattle.steps.specs.Steps.{pairStep}
 use Rattle.steps.specs.Find.{TwoRecords, PairStands}
 use Rattle.steps.specs.Tables.{PairBelow}
 
-distance-each : (n : ℕ) (ws : List ℕ) (k : ℕ) → k < n → getD (readEach readDistance 2 n ws) k pzero ≡ readDistance (drop (2 * k) ws)
-unfolding readEach
-distance-each zero ws k h = absurd (omega arith)
-distance-each (suc n) ws zero h = refl
-distance-each (suc n) ws (suc k) h =
-    let plus : 2 + 2 * k ≡ 2 * suc k = omega arith in
-    distance-each n (drop 2 ws) k (omega arith) ∙ ap readDistance (drop-drop (2 * k) 2 ws ∙ ap (λ (m : ℕ). drop m ws) plus)
-
--- distance number k
-row-distance : (ws : List ℕ) (k : ℕ) → k < size (readRow ws) * readRow ws .before → getD (readRow ws .distances) k pzero ≡ floatAt ws (2 + 7 * size (readRow ws) + 2 * k)
-unfolding readRow
-row-distance ws k h =
-    let c = headCount (getD ws 0 0) in
-    let p = headBefore (getD ws 0 0) in
-    let l : k < c * p = rw (row-size ws) at h in
-    let place : 1 + 7 * c + 1 + 2 * k + 0 ≡ 2 + 7 * size (readRow ws) + 2 * k = omega (arith, row-size ws) in
-    distance-each (c * p) (drop 1 (drop (7 * c) (drop 1 ws))) k l
-    ∙ ap readDistance (
-    ap (λ (xs : List ℕ). drop (2 * k) (drop 1 xs)) (drop-drop (7 * c) 1 ws)
-    ∙ ap (drop (2 * k)) (drop-drop 1 (1 + 7 * c) ws)
-    ∙ drop-drop (2 * k) (1 + 7 * c + 1) ws)
-    ∙ drop-float (1 + 7 * c + 1 + 2 * k) 0 ws
-    ∙ ap (floatAt ws) place
-
 -- candidate j of the predecessor and own candidate i have one
 pub pair-inside : (c p i j : ℕ) → i < c → j < p → j * c + i < c * p
 pair-inside c p i j h l = omega (arith, mul-le-mul-right c l, suc-mul j c, mul-comm p c)
@@ -54,7 +28,7 @@ pair-inside c p i j h l = omega (arith, mul-le-mul-right c l, suc-mul j c, mul-c
 pub pair-distance : (ws : List ℕ) (i j m : ℕ) → PairStands ws i j → m ≡ j * size (readRow ws) → floatAt ws (2 + 7 * size (readRow ws) + 2 * (m + i)) ≡ getD (readRow ws .distances) (j * size (readRow ws) + i) pzero
 pair-distance ws i j m h e =
     ap (λ (z : ℕ). floatAt ws (2 + 7 * size (readRow ws) + 2 * (z + i))) e
-    ∙ sym (row-distance ws (j * size (readRow ws) + i) (pair-inside (size (readRow ws)) (readRow ws .before) i j (h .below) (h .below-before)))
+    ∙ sym (row-distance ws pzero (j * size (readRow ws) + i) (pair-inside (size (readRow ws)) (readRow ws .before) i j (h .below) (h .below-before)))
 
 -- within the words
 pub pair-room : (ws : List ℕ) (i j m : ℕ) → PairStands ws i j → m ≡ j * size (readRow ws) → 2 + 7 * size (readRow ws) + 2 * (m + i) + 1 < length ws
