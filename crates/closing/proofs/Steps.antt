@@ -49,7 +49,8 @@ score-low n (inf false) k = ranged n (inf false) (unfold scoreOk in k)
 score-low n (fin s m e) k = ranged n (fin s m e) (unfold scoreOk in k)
 
 module _ (r : Row) (rs : List Row) (o : Obey (r ∷ rs)) where
-  rules : (i : ℕ) → i < size r → CellRules (r .before) (length rs) (cellOf r i)
+  -- each of its cells obeys them
+  pub rules : (i : ℕ) → i < size r → CellRules (r .before) (length rs) (cellOf r i)
   rules i h =
       cell-rules (r .before) (length rs) (cellOf r i)
       (all-at (cellOk (r .before) (length rs)) (r .cells) i noCell (row-rules (sizeOf (predecessor rs)) (length rs) r (o .0 .1) .cells) h)

@@ -2,3 +2,5 @@
 pub mod Onto
 pub mod Reading
 pub mod Closed
+pub mod Rising
+pub mod PathGroups

@@ -4,6 +4,7 @@ pub mod BuildGroups
 pub mod BuildTurns
 pub mod BuildOpening
 pub mod BuildStoring
+pub mod BuildSound
 pub mod Shared
 pub mod Slices
 pub mod Enter18
