@@ -13,4 +13,4 @@ pub mod Keeps
 pub mod Turns
 pub mod Lending
 pub mod Facts
-pub mod Entry
+pub mod Locals
