@@ -53,7 +53,7 @@ pub record Loading (s : Stage) (n : ℕ) : Type 0 where
 
 pub record Looking (s : Stage) (l : List Segment) (n : ℕ) : Type 0 where
   pub here : s .at ≡ s .read + s .gap .count
-  pub small : s .gap .count < 4
+  pub small : s .gap .count ≤ 3
   pub inside : s .read + s .gap .count < s .count
   pub passing : Passing s n 1
   pub seen : s .gap ≡ gather emptyGap (take (s .gap .count) (rest s l))

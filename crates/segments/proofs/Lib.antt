@@ -23,4 +23,4 @@ pub mod Keeps
 pub mod Turns
 pub mod Lending
 pub mod Facts
-pub mod Entry14
+pub mod Locals

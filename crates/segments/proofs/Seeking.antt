@@ -50,7 +50,7 @@ module _ (z : Stage) (l : List Segment) (ws : List ℕ) (sized : length l ≡ z 
       let y : turnsLeft look ≡ passTurns z (z .count) (z .read) + 2 + (4 - z .gap .count) = left-look look refl in
       record {
         out = refl;
-        inv = record { sized = sized; phase = looking refl (record { here = refl; small = omega arith; inside = omega arith; passing = g .passing; seen = g .seen }) };
+        inv = record { sized = sized; phase = looking refl (record { here = refl; small = a; inside = omega arith; passing = g .passing; seen = g .seen }) };
         same = coming-look look l ws refl;
         less = omega arith;
       }

@@ -82,8 +82,8 @@ module _ (s : Stage) (l : List Segment) (ws : List ℕ) (g : Inv s l ws) (k : 0 
       go (over e) = absurd (omega arith)
       go (checking e c) = rw e (c .inside)
       go (loading e c) = rw e (c .inside)
-      go (looking e c) = rw e (c .small, c .inside, omega (arith, c .passing .few), omega (arith, c .passing .few, c .passing .buffer))
-      go (keeping e c) = rw e (omega (arith, c .passing .behind), c .passing .within, c .passing .room)
+      go (looking e c) = rw e (record { few = c .small; inside = c .inside; undecided = omega (arith, c .passing .few); room = omega (arith, c .passing .few, c .passing .buffer) })
+      go (keeping e c) = rw e (record { behind = omega (arith, c .passing .behind); within = c .passing .within; room = c .passing .room })
       go (clearing e c) = rw e (c .inside)
 
   pub turn-inv : Inv (turned s (entry s l)) (stored s l) (noted s l ws)

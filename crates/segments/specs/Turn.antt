@@ -106,15 +106,23 @@ turned s v = phased (s .phase) (checked s v) (loaded s v) (looked s v) (kept s) 
 unfoldable pub turnedWords : Stage → Segment → List ℕ → List ℕ
 turnedWords s v ws = phased (s .phase) ws ws (lookedWords s v ws) ws ws
 
--- what a turn asks of the numbers, where the buffer has n words
+-- ---- what a turn asks of the numbers, where the buffer has n words
+
+pub record LookReady (s : Stage) (n : ℕ) : Type 0 where
+  pub few : s .gap .count ≤ 3
+  pub inside : s .read + s .gap .count < s .count
+  pub undecided : s .decided < s .total
+  pub room : s .decided * 6 + 6 ≤ n
+
+pub record KeepReady (s : Stage) : Type 0 where
+  pub behind : s .write < s .read
+  pub within : s .read ≤ s .count
+  pub room : s .count ≤ s .total
+
 unfoldable pub Ready : Stage → ℕ → Type 0
-Ready s n =
-    phased (s .phase)
-    (s .read < s .total)
-    (s .read < s .count)
-    ((s .gap .count < 4) × (s .read + s .gap .count < s .count) × (s .decided < s .total) × (s .decided * 6 + 6 ≤ n))
-    ((s .write < s .read) × (s .read ≤ s .count) × (s .count ≤ s .total))
-    (s .write < s .total)
+Ready s n = phased (s .phase) (s .read < s .total) (s .read < s .count) (LookReady s n) (KeepReady s) (s .write < s .total)
+
+-- ---- what the call answers at the end
 
 unfoldable pub finished : Stage → Collapsed
 finished s = cond (eqb (s .refusal) 0) (Done (s .count) (s .decided)) (Refused (s .refusal))

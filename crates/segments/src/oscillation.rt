@@ -1,7 +1,7 @@
 // An oscillation: a segment, those between, and the next segment of its element.
 use crate::segment::Segment;
 ghost use mathlib.Core.Path.{_≡_};
-ghost use Prim.Native.Nat.{_+_, _*_, _<_, _≤_};
+ghost use Prim.Native.Nat.{_+_, _*_, _≤_};
 ghost use lib.ListN.{length};
 ghost use lib.Seq.{sets};
 ghost use Rattle.segments.specs.Collapse.{rowSpan, merged};
@@ -42,7 +42,7 @@ pub fn empty_gap() -> Gap
 
 // One more segment between.
 pub fn widen(gap: Gap, segment: Segment) -> Gap
-    requires { ⌜ gap .count < 4 ⌝ }
+    requires { ⌜ gap .count ≤ 3 ⌝ }
     ensures { λ r. ⌜ r ≡ widened gap segment ⌝ }
 {
     let mut wide = gap;
@@ -100,7 +100,8 @@ pub fn merge(segment: Segment, next: Segment) -> Segment
 
 // Decision k: element, span, how many segments are removed, and their elements.
 pub fn store_decision(decisions: &mut [u32], k: usize, element: u32, gap: Gap)
-    requires { ⌜ (k * 6 + 6 ≤ length (now decisions)) × (gap .count < 4) ⌝ }
+    requires { ⌜ k * 6 + 6 ≤ length (now decisions) ⌝ }
+    requires { ⌜ gap .count ≤ 3 ⌝ }
     ensures { λ _. ⌜ now (decisions .exit) ≡ sets (now (decisions .entry)) (k * 6) (storedWords element gap) ⌝ }
 {
     let at = k * DECISION_WORDS;

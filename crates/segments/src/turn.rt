@@ -12,22 +12,27 @@ use crate::segment::is_sound;
 use crate::segment::zero_segment;
 ghost use mathlib.Core.Path.{_≡_};
 ghost use mathlib.Core.Bool.{cond};
-ghost use Prim.Native.Nat.{_+_, _*_, _<_, _≤_};
+ghost use Prim.Native.Nat.{_+_, _<_, _≤_};
 ghost use lib.Dec.{eqb};
 ghost use lib.ListN.{length};
-ghost use Rattle.segments.specs.Turn.{begun, sought, accepted, checked, loaded, seen, joined, looked, lookedWords, kept, cleared, Ready, turned, turnedWords};
+ghost use Rattle.segments.specs.Turn.{begun, sought, accepted, checked, loaded, seen, joined, LookReady, looked, lookedWords, KeepReady, kept, cleared, Ready, turned, turnedWords};
 
-// The phases: all is done; check 14; a segment becomes the current one; those after it are looked at; it is stored; entries past the count are zeroed.
+// The phases. Nothing is left to do.
 pub const OVER: u32 = 0;
 
+// An entry goes through check 14.
 const CHECKING: u32 = 1;
 
+// An entry becomes the current segment.
 const LOADING: u32 = 2;
 
+// An entry after the current segment is looked at.
 const LOOKING: u32 = 3;
 
+// The current segment is stored.
 const KEEPING: u32 = 4;
 
+// An entry past the new count becomes zero.
 const CLEARING: u32 = 5;
 
 // The stage that collapsing has reached.
@@ -164,7 +169,8 @@ fn load(stage: Stage, segment: Segment) -> Stage
 
 // The segment is one more between.
 fn see(stage: Stage, segment: Segment) -> Stage
-    requires { ⌜ (stage .gap .count < 4) × (stage .read ≤ stage .count) ⌝ }
+    requires { ⌜ stage .gap .count ≤ 3 ⌝ }
+    requires { ⌜ stage .read ≤ stage .count ⌝ }
     ensures { λ r. ⌜ r ≡ seen stage segment ⌝ }
 {
     let gap = stage.gap;
@@ -177,7 +183,8 @@ fn see(stage: Stage, segment: Segment) -> Stage
 
 // Those between and the segment are removed, the current one is merged with it and tried again.
 fn join(stage: Stage, segment: Segment) -> Stage
-    requires { ⌜ (stage .read + stage .gap .count < stage .count) × (stage .decided < stage .total) ⌝ }
+    requires { ⌜ stage .read + stage .gap .count < stage .count ⌝ }
+    requires { ⌜ stage .decided < stage .total ⌝ }
     ensures { λ r. ⌜ r ≡ joined stage segment ⌝ }
 {
     let current = stage.current;
@@ -195,7 +202,7 @@ fn join(stage: Stage, segment: Segment) -> Stage
 }
 
 fn look(stage: Stage, segment: Segment, decisions: &mut [u32]) -> Stage
-    requires { ⌜ (stage .gap .count < 4) × (stage .read + stage .gap .count < stage .count) × (stage .decided < stage .total) × (stage .decided * 6 + 6 ≤ length (now decisions)) ⌝ }
+    requires { ⌜ LookReady stage (length (now decisions)) ⌝ }
     ensures { λ r. ⌜ (r ≡ looked stage segment) × (now (decisions .exit) ≡ lookedWords stage segment (now (decisions .entry))) ⌝ }
 {
     let current = stage.current;
@@ -218,7 +225,7 @@ fn look(stage: Stage, segment: Segment, decisions: &mut [u32]) -> Stage
 
 // The current segment is stored; then the next one is loaded, or a new pass begins after one that decided something, or the rest is zeroed.
 fn keep(stage: Stage) -> Stage
-    requires { ⌜ (stage .write < stage .read) × (stage .read ≤ stage .count) × (stage .count ≤ stage .total) ⌝ }
+    requires { ⌜ KeepReady stage ⌝ }
     ensures { λ r. ⌜ r ≡ kept stage ⌝ }
 {
     let current = stage.current;
