@@ -3,7 +3,7 @@ use Prim.Native.Nat.{ℕ, _+_, _<_, _≤_}
 use native.Mathlib.Omega.{arith}
 use mathlib.Core.Path.{_≡_, refl, sym, ap, _∙_, subst}
 use mathlib.Core.Bool.{Bool, true, false, cond}
-use mathlib.Core.List.{List, [], _∷_, _++_, map, reverse, reverseAux, reverseAux-eq}
+use mathlib.Core.List.{List, [], _∷_, _++_, map, reverse, reverseAux-eq}
 use mathlib.Core.Option.{some}
 use borrow.Author.Tests.{le-leb, lt-leb}
 use lib.Dec.{T, leb}

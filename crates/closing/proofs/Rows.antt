@@ -1,12 +1,12 @@
 -- A row read from its record, field by field. Assumes nothing.
-use Prim.Native.Nat.{ℕ, zero, suc, _+_, _*_, _-_, _/_, _%_, _<_, _≤_, min}
-use native.Mathlib.Nat.{mul-zero, mul-suc, add-comm, div-one, mul-le-mul}
+use Prim.Native.Nat.{ℕ, suc, _+_, _*_, _-_, _/_, _%_, _<_, _≤_, min}
+use native.Mathlib.Nat.{div-one, mul-le-mul}
 use native.Mathlib.Omega.{arith}
 use mathlib.Core.Path.{_≡_, refl, sym, ap, _∙_}
 use mathlib.Core.List.{List, _∷_, map}
 use borrow.Author.Tests.{le-leb, lt-leb, lt-ltb, le-ltb}
 use lib.ListN.{length, getD, drop, length-map, List·getD-map, length-drop}
-use lib.Seq.{drop-drop, drop-cons}
+use lib.Seq.{drop-cons}
 use lib.Ieee.{Float, nan}
 use Rattle.journal.specs.Row.{Cell, noCell, size, cellOf}
 use Rattle.journal.specs.Record.{floatAt, readDistance, recordLength, readRow}

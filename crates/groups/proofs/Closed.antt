@@ -1,14 +1,13 @@
 -- The groups of the best path are those that the walk back reads. Assumes nothing.
 use Prim.Native.Nat.{ℕ}
 use mathlib.Core.Path.{_≡_, sym, ap, _∙_}
-use mathlib.Core.List.{List, [], map, reverse}
+use mathlib.Core.List.{List, [], reverse}
 use lib.Ieee.{Float}
 use Rattle.lists.proofs.Lists.{map-back}
-use Rattle.journal.specs.Row.{Row}
 use Rattle.decoder.specs.Closing.{Closed, path}
 use Rattle.closing.specs.declared.walk.Back.{Back}
 use Rattle.closing.specs.Walk.{standing, pathFrom}
-use Rattle.groups.specs.Groups.{State, stateAt, groups, groupsClosed}
+use Rattle.groups.specs.Groups.{stateAt, groups, groupsClosed}
 use Rattle.groups.specs.Gather.{statesFrom, groupsFrom}
 use Rattle.groups.proofs.Onto.{onto-groups}
 

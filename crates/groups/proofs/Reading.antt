@@ -3,7 +3,7 @@ use Prim.Native.Nat.{ℕ, zero, suc, _+_, _<_, _≤_}
 use native.Mathlib.Omega.{arith}
 use mathlib.Core.Path.{_≡_, refl, sym, ap, _∙_}
 use mathlib.Core.Bool.{Bool, true, false, not, _&&_, cond}
-use mathlib.Core.List.{List, [], _∷_, _++_, map, append-nil}
+use mathlib.Core.List.{List, [], _∷_, _++_, map}
 use mathlib.Core.Logic.{_⊎_, inl, inr}
 use borrow.Author.Tests.{eqb-true, eqb-false, eq-eqb, ne-eqb}
 use lib.Dec.{eqb}
@@ -18,7 +18,7 @@ use Rattle.closing.specs.Walk.{standing, firstRows, Reached, Onward, pathFrom, 
 use Rattle.closing.proofs.Steps.{reached-few, over-reached, over-rows, over-inside, over-candidate, over-quiet, over-pair, over-row, path-stops, path-ends}
 use Rattle.groups.specs.declared.group.NetelementGroup.{NetelementGroup}
 use Rattle.groups.specs.declared.gather.Gathering.{Gathering}
-use Rattle.groups.specs.Groups.{State, stateOf, stateAt, alone, join, before}
+use Rattle.groups.specs.Groups.{stateOf, stateAt, alone, join, before}
 use Rattle.groups.specs.Gather.{statesFrom, onto, groupsFrom, groupRead, pending, goesOn, Ended, Turned, Gathered}
 use Rattle.groups.proofs.Onto.{onto-joins, onto-apart}
 

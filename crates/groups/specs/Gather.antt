@@ -1,12 +1,12 @@
 -- The walk back along the parents, a group at a time.
-use Prim.Native.Nat.{ℕ, _+_, _<_, _≤_}
+use Prim.Native.Nat.{ℕ, _<_}
 use mathlib.Core.Path.{_≡_}
 use mathlib.Core.Bool.{Bool, true, false, not, _&&_, cond}
 use mathlib.Core.List.{List, [], _∷_, _++_, map}
 use lib.Dec.{eqb}
 use Rattle.journal.specs.Row.{noParent}
 use Rattle.closing.specs.declared.walk.Back.{Back}
-use Rattle.closing.specs.Walk.{standing, pathFrom, Reached, Onward}
+use Rattle.closing.specs.Walk.{standing, pathFrom, Reached}
 use Rattle.groups.specs.declared.group.NetelementGroup.{NetelementGroup}
 use Rattle.groups.specs.declared.gather.Gathering.{Gathering}
 use Rattle.groups.specs.Groups.{State, stateAt, before}

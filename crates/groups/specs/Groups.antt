@@ -6,7 +6,7 @@ use lib.Dec.{eqb}
 use lib.Ieee.{Float, lt}
 use Rattle.journal.specs.Row.{Row, cellOf}
 use Rattle.journal.specs.declared.record.Candidate.{Candidate}
-use Rattle.decoder.specs.Closing.{Pairs, Closed, nothing, path}
+use Rattle.decoder.specs.Closing.{Closed, nothing, path}
 use Rattle.closing.specs.Row.{rowNumber}
 use Rattle.groups.specs.declared.group.NetelementGroup.{NetelementGroup}
 

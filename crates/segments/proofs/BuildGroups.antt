@@ -1,13 +1,13 @@
 -- The groups from the last one back, and the segments that they leave. Assumes nothing.
 use Prim.Native.Nat.{ℕ, suc, _+_, _-_, _*_, _<_, _≤_}
 use native.Mathlib.Omega.{arith}
-use mathlib.Core.Path.{_≡_, refl, sym, ap, _∙_}
+use mathlib.Core.Path.{_≡_, refl, ap, _∙_}
 use mathlib.Core.Bool.{Bool, true, false, cond}
-use mathlib.Core.List.{List, [], _∷_, _++_, map, append-assoc}
+use mathlib.Core.List.{List, [], _∷_, _++_, map}
 use mathlib.Core.Logic.{_⊎_, inl, inr}
 use lib.ListN.{length, take, replicate, length-append, length-map}
 use lib.Seq.{take-append-seam}
-use Rattle.lists.proofs.Loops.{two, clash}
+use Rattle.lists.proofs.Loops.{two}
 use Rattle.routing.specs.Network.{Network}
 use Rattle.bridges.specs.declared.insert.Bridges.{Bridges}
 use Rattle.bridges.specs.Bridges.{between}
@@ -17,10 +17,8 @@ use Rattle.journal.specs.Ranges.{rowLimit}
 use Rattle.closing.specs.declared.walk.Back.{Back}
 use Rattle.closing.specs.Walk.{Reached}
 use Rattle.closing.proofs.Steps.{reached-few}
-use Rattle.groups.specs.declared.group.NetelementGroup.{NetelementGroup}
 use Rattle.groups.specs.declared.gather.Gathering.{Gathering}
 use Rattle.groups.specs.Gather.{groupsFrom, Gathered}
-use Rattle.segments.specs.declared.segment.Segment.{Segment}
 use Rattle.segments.specs.declared.trail.Trail.{Trail}
 use Rattle.segments.specs.Build.{segmentOf, bridge, bridges, built}
 use Rattle.segments.specs.Trail.{groupsLeft, Begun, Stepped}

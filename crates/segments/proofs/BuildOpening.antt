@@ -2,18 +2,16 @@
 use Prim.Native.Nat.{ℕ, _<_, _≤_}
 use native.Mathlib.Omega.{arith}
 use mathlib.Core.Path.{_≡_, refl, sym, ap, _∙_}
-use mathlib.Core.Bool.{Bool, true, false, cond}
-use mathlib.Core.List.{List, [], _∷_, _++_, append-nil}
-use mathlib.Core.Option.{none, some}
-use borrow.Author.Tests.{eq-eqb, ne-eqb, le-leb, lt-leb}
-use lib.Dec.{eqb, leb}
-use lib.ListN.{length, take, drop}
+use mathlib.Core.Bool.{Bool, true, false}
+use mathlib.Core.List.{List, [], _++_, append-nil}
+use borrow.Author.Tests.{ne-eqb, le-leb, lt-leb}
+use lib.Dec.{leb}
+use lib.ListN.{length, drop}
 use Rattle.lists.proofs.Loops.{clash}
 use Rattle.routing.specs.Network.{Network, count, orRefuse, checked}
 use Rattle.routing.specs.declared.network.Checked.{Checked}
 use Rattle.routing.specs.declared.network.Checked.the-variants.{Accepted, Refused}
 use Rattle.journal.specs.Lists.{all}
-use Rattle.journal.specs.Row.{Row, predecessor}
 use Rattle.journal.specs.Record.{readRow}
 use Rattle.journal.specs.Journal.{readJournal}
 use Rattle.journal.specs.Check.{survey}
@@ -28,7 +26,7 @@ use Rattle.rows.specs.declared.previous.Previous.{Previous}
 use Rattle.decoder.specs.Closing.{closing}
 use Rattle.decoder.specs.Call.{knownRow}
 use Rattle.decoder.specs.Plan.{RowsStand, knownRead}
-use Rattle.closing.specs.Walk.{rowsRead, standing}
+use Rattle.closing.specs.Walk.{standing}
 use Rattle.closing.specs.Close.{Scoring}
 use Rattle.closing.proofs.Closing.{begin, closing-is}
 use Rattle.groups.specs.Groups.{groupsClosed}
@@ -37,9 +35,9 @@ use Rattle.groups.proofs.Closed.{closed-groups}
 use Rattle.segments.specs.declared.segment.Segment.{Segment}
 use Rattle.segments.specs.declared.trail.Trail.{Trail}
 use Rattle.segments.specs.declared.build.Building.{Building}
-use Rattle.segments.specs.Build.{Outcome, gives, refused, built, fitted, pathSegments, building, answered, stored}
+use Rattle.segments.specs.Build.{gives, refused, built, fitted, pathSegments, building, answered, stored}
 use Rattle.segments.specs.Trail.{groupsLeft, Begun}
-use Rattle.segments.specs.Building.{toCome, refusing, endOf, Stands, OpenedBy, Opened, OpenedAt}
+use Rattle.segments.specs.Building.{refusing, endOf, Stands, OpenedBy, Opened, OpenedAt}
 
 -- ---- nothing is left
 

@@ -3,12 +3,11 @@ use Prim.Native.Nat.{ℕ, suc, _<_, _≤_}
 use native.Mathlib.Omega.{arith}
 use mathlib.Core.Path.{_≡_, refl, sym, ap, _∙_}
 use mathlib.Core.List.{List, [], _∷_, _++_, append-assoc}
-use lib.ListN.{length, getD, drop, set, length-set}
+use lib.ListN.{length, drop, set, length-set}
 use Rattle.lists.proofs.Lists.{drop-stored}
 use Rattle.routing.specs.Network.{Network}
 use Rattle.segments.specs.declared.segment.Segment.{Segment}
 use Rattle.segments.specs.declared.build.Building.{Building}
-use Rattle.segments.specs.Segment.{zeroSegment}
 use Rattle.segments.specs.Build.{building, answered, stored}
 use Rattle.segments.specs.Building.{toCome, endOf, Stands, Onward, Opened, Turned}
 

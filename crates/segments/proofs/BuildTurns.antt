@@ -1,17 +1,13 @@
 -- A turn of building: the last of the segments that are left. Assumes nothing.
-use Prim.Native.Nat.{ℕ, suc, _+_, _-_, _<_, _≤_}
+use Prim.Native.Nat.{ℕ, suc, _-_, _<_, _≤_}
 use native.Mathlib.Omega.{arith}
 use mathlib.Core.Path.{_≡_, refl, sym, ap, _∙_}
-use mathlib.Core.Bool.{Bool, true, false, cond}
+use mathlib.Core.Bool.{Bool, true, false}
 use mathlib.Core.List.{List, [], _∷_, _++_, map, append-assoc, append-nil}
-use mathlib.Core.Logic.{_⊎_, inl, inr}
-use lib.ListN.{length, getD, take, drop, set, replicate, length-append, length-map}
-use lib.Seq.{take-suc, take-append-seam}
+use lib.ListN.{length, getD, take, length-append}
+use lib.Seq.{take-suc}
 use Rattle.lists.proofs.Lists.{map-snoc}
-use Rattle.lists.proofs.Loops.{two, clash}
 use Rattle.routing.specs.Network.{Network}
-use Rattle.bridges.specs.declared.insert.Bridges.{Bridges}
-use Rattle.bridges.specs.Found.{bridgesOf}
 use Rattle.closing.specs.Walk.{Reached}
 use Rattle.segments.specs.declared.segment.Segment.{Segment}
 use Rattle.segments.specs.declared.trail.Trail.{Trail}

@@ -7,8 +7,6 @@ pub mod BuildStoring
 pub mod BuildSound
 pub mod Shared
 pub mod Slices
-pub mod Enter18
-pub mod Enter19
 pub mod Phases
 pub mod Passes
 pub mod Gaps

@@ -6,7 +6,7 @@ use mathlib.Core.Option.{Option, none, some}
 use lib.Dec.{leb}
 use lib.IntN.{pos}
 use lib.ListN.{length, drop}
-use lib.Ieee.{Float, fin}
+use lib.Ieee.{fin}
 use Rattle.binary64.specs.Values.{pzero}
 use Rattle.routing.specs.declared.network.Checked.{Checked}
 use Rattle.routing.specs.declared.network.Checked.the-variants.{Accepted, Refused}

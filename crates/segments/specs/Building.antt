@@ -7,11 +7,9 @@ use lib.Dec.{eqb}
 use lib.ListN.{length, take, drop}
 use Rattle.binary64.specs.Values.{pzero}
 use Rattle.routing.specs.Network.{Network, count}
-use Rattle.journal.specs.Journal.{readJournal}
 use Rattle.closing.specs.Walk.{standing, Reached}
 use Rattle.bridges.specs.Found.{bridgesOf}
 use Rattle.segments.specs.declared.segment.Segment.{Segment}
-use Rattle.segments.specs.declared.trail.Trail.{Trail}
 use Rattle.segments.specs.declared.build.Built.{Built}
 use Rattle.segments.specs.declared.build.Built.the-variants.{Segments, Refused}
 use Rattle.segments.specs.declared.build.Building.{Building}

@@ -34,7 +34,7 @@ use Rattle.rows.specs.Row.{StepScore}
 use Rattle.decoder.specs.Call.{knownRow}
 use Rattle.decoder.specs.Refusal.{refusalOf}
 use Rattle.steps.specs.Steps.{predecessorAt, stepsBetween, stepsFrom, stepsOf}
-use Rattle.steps.specs.Listing.{gave, refused, listed, fitted, listRead, listing}
+use Rattle.steps.specs.Listing.{gave, refused, fitted, listRead, listing}
 use Rattle.steps.specs.Find.{earlier, linked, found, foundPassed, foundRead, TwoRecords}
 use Rattle.steps.specs.declared.store.Entry.{Entry}
 use Rattle.steps.specs.declared.find.Found.{Found}

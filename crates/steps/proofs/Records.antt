@@ -1,18 +1,18 @@
 -- The records of a row and its predecessor, each at the head of some words: their pairs. Assumes nothing.
-use Prim.Native.Nat.{ℕ, zero, suc, _+_, _*_, _<_, _≤_}
+use Prim.Native.Nat.{ℕ, _+_, _*_, _<_, _≤_}
 use native.Mathlib.Nat.{mul-le-mul, mul-le-mul-right, suc-mul, mul-comm}
 use native.Mathlib.Omega.{arith}
-use mathlib.Core.Path.{_≡_, refl, sym, ap, _∙_}
+use mathlib.Core.Path.{_≡_, sym, ap, _∙_}
 use mathlib.Core.Bool.{true, false}
 use mathlib.Core.List.{List}
-use lib.ListN.{length, getD, drop}
+use lib.ListN.{length, getD}
 use lib.Ieee.{Float}
 use lib.Ieee.Scale.{finite}
 use Rattle.binary64.specs.Values.{pzero}
 use Rattle.journal.specs.Row.{Row, size, cellOf, scoreOf}
-use Rattle.journal.specs.Record.{recordLength, floatAt, readDistance, readEach, headCount, headBefore, readRow}
+use Rattle.journal.specs.Record.{recordLength, floatAt, readRow}
 use Rattle.journal.specs.declared.record.Candidate.{Candidate}
-use Rattle.journal.proofs.Records.{row-size, row-distance}
+use Rattle.journal.proofs.Records.{row-distance}
 use Rattle.transition.specs.declared.step.Step.{Step}
 use Rattle.transition.specs.declared.step.Step.the-variants.{Impossible}
 use Rattle.rows.specs.Row.{StepScore}

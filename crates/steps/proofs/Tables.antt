@@ -16,7 +16,7 @@ use Rattle.transition.specs.declared.step.Step.{Step}
 use Rattle.transition.specs.declared.step.Step.the-variants.{Possible, Impossible}
 use Rattle.rows.specs.Row.{StepScore}
 use Rattle.steps.specs.Steps.{pairStep, entryOf, stepsBetween}
-use Rattle.steps.specs.Tables.{Tables, tables, stepAt, putStep, Wide, stepOfPair, Holds, countOf, entriesOf, entryIf}
+use Rattle.steps.specs.Tables.{Tables, stepAt, putStep, Wide, stepOfPair, Holds, countOf, entriesOf, entryIf}
 use Rattle.steps.proofs.Pairs.{upTo-same, upTo-pairs}
 
 -- ---- a step stored
