@@ -13,4 +13,6 @@ pub mod Keeps
 pub mod Turns
 pub mod Lending
 pub mod Facts
+pub mod Parts
+pub mod Arrays
 pub mod Locals
