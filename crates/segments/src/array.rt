@@ -1,4 +1,4 @@
-// Collapsing for a program that holds its segments in an array: it lends a part of it, so that its caller needs no reference to a struct.
+// Collapsing for a program that holds its segments in an array, and so lends no slice of structs.
 use crate::collapse::Collapsed;
 use crate::collapse::remove_oscillations;
 use crate::segment::Segment;
@@ -58,7 +58,7 @@ fn collapse_first(
     array_of(answer, list, words)
 }
 
-// The first n segments are collapsed, or all of them, and the first m words are the decision buffer, or all of them; the others stay.
+// The first n segments are collapsed, all of them where there are fewer, and the first m words are the decision buffer, likewise; what is past them stays.
 pub fn collapse_array(
     segments: [Segment; ARRAY_SEGMENTS],
     decisions: [u32; ARRAY_WORDS],
