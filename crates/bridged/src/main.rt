@@ -3,7 +3,7 @@
 use decoder::feed::feed;
 use journal::call::Answer;
 use journal::call::open;
-use segments::array::SEGMENTS;
+use segments::array::ARRAY_SEGMENTS;
 use segments::array::build_array;
 use segments::build::Built;
 use segments::segment::Segment;
@@ -50,15 +50,15 @@ fn print_answer(answer: Answer) {
     }
 }
 
-fn print_segments(list: [Segment; SEGMENTS], n: usize) {
-    for k in 0..SEGMENTS {
+fn print_segments(list: [Segment; ARRAY_SEGMENTS], n: usize) {
+    for k in 0..ARRAY_SEGMENTS {
         if k < n {
             print_segment(list[k]);
         }
     }
 }
 
-fn empty_list() -> [Segment; SEGMENTS] {
+fn empty_list() -> [Segment; ARRAY_SEGMENTS] {
     let none = Segment {
         element: 0,
         start_intrinsic: 0.0,
@@ -66,7 +66,7 @@ fn empty_list() -> [Segment; SEGMENTS] {
         first_row: 0,
         last_row: 0,
     };
-    [none; SEGMENTS]
+    [none; ARRAY_SEGMENTS]
 }
 
 // Two fixes, on element 0 and then on element 2, where element 1 has this length.
@@ -136,7 +136,7 @@ fn drive(middle: f64) {
         &both,
         &journal,
         empty_list(),
-        SEGMENTS,
+        ARRAY_SEGMENTS,
     );
     let answer = built.answer;
     let list = built.list;

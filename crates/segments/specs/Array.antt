@@ -1,20 +1,39 @@
--- Building on an array of a fixed size.
-use Prim.Native.Nat.{ℕ, min}
+-- Collapsing a part of an array, and building on one.
+use Prim.Native.Nat.{ℕ, _≤_, min}
 use mathlib.Core.List.{List, _++_}
 use lib.ListN.{length, take, drop}
 use Rattle.routing.specs.Network.{Network}
+use Rattle.segments.specs.Build.{Outcome as Building, building, answered, stored}
+use Rattle.segments.specs.Collapse.{Outcome, collapsing}
 use Rattle.segments.specs.declared.segment.Segment.{Segment}
+use Rattle.segments.specs.declared.collapse.Collapsed.{Collapsed}
 use Rattle.segments.specs.declared.build.Built.{Built}
+use Rattle.segments.specs.declared.array.CollapsedArray.{CollapsedArray}
 use Rattle.segments.specs.declared.array.BuiltArray.{BuiltArray}
-use Rattle.segments.specs.Build.{Outcome, building, answered, stored}
 
-abbrev pub wholeOf : Built → List Segment → BuiltArray
-wholeOf answer list = record { answer = answer; list = list }
+abbrev pub arrayOf : Collapsed → List Segment → List ℕ → CollapsedArray
+arrayOf answer segments decisions = record { answer = answer; segments = segments; decisions = decisions }
+
+-- an outcome with what was not lent behind it
+abbrev pub backed : Outcome → List Segment → List ℕ → CollapsedArray
+backed o segments decisions = arrayOf (o .answer) (o .segments ++ segments) (o .decisions ++ decisions)
+
+-- the first n segments are collapsed, with the first m words for the decisions, and the others stay
+abbrev pub arrayed : List Segment → List ℕ → ℕ → ℕ → CollapsedArray
+arrayed l ws n m = backed (collapsing (take n l) (take m ws)) (drop n l) (drop m ws)
+
+-- there are so many of both
+pub record Lendable (l : List Segment) (ws : List ℕ) (n m : ℕ) : Type 0 where
+  pub segments : n ≤ length l
+  pub words : m ≤ length ws
+
+abbrev pub builtOf : Built → List Segment → BuiltArray
+builtOf answer list = record { answer = answer; list = list }
 
 -- what building answers, and what it leaves of the entries lent, with the others behind them
-abbrev pub heldOf : Outcome → List Segment → List Segment → BuiltArray
-heldOf o lent others = wholeOf (answered o) (stored o lent ++ others)
+abbrev pub heldOf : Building → List Segment → List Segment → BuiltArray
+heldOf o lent others = builtOf (answered o) (stored o lent ++ others)
 
--- the first n entries, at most 4,096, are lent, and the others stay
-abbrev pub arrayOf : Network → List ℕ → List Segment → ℕ → BuiltArray
-arrayOf net s l n = heldOf (building net s (length (take (min n 4096) l))) (take (min n 4096) l) (drop (min n 4096) l)
+-- the first n entries, at most 4,096, are lent to building, and the others stay
+abbrev pub builtArray : Network → List ℕ → List Segment → ℕ → BuiltArray
+builtArray net s l n = heldOf (building net s (length (take (min n 4096) l))) (take (min n 4096) l) (drop (min n 4096) l)

@@ -57,7 +57,7 @@ use Rattle.segments.specs.declared.segment.Segment.{Segment}
 use Rattle.segments.specs.declared.build.Built.{Built}
 use Rattle.segments.specs.declared.array.BuiltArray.{BuiltArray}
 use Rattle.segments.specs.Build.{building, answered, stored}
-use Rattle.segments.specs.Array.{wholeOf, arrayOf}
+use Rattle.segments.specs.Array.{builtOf, builtArray}
 use Rattle.segments.proofs.Slices.{Slices, Rooms, net, journal, shared, valOf, vals, typesAt, copies}
 use Rattle.segments.proofs.Shared.{also, alsoV, alsoL, alsoQ, owns-in, owns-out, toks-in, toks-out}
 use Rattle.segments.proofs.Locals.{entry, free-all}
@@ -75,10 +75,10 @@ use Rattle.segments.proofs.array.entries as entries
 use Rattle.segments.proofs.array.entries.Symbol as entries-def
 use Rattle.segments.proofs.array.entries.Symbol.{name as #segments·array·entries}
 use Rattle.segments.proofs.array.entries.Met as entries-thm
-use Rattle.segments.proofs.array.whole as whole
-use Rattle.segments.proofs.array.whole.Symbol as whole-def
-use Rattle.segments.proofs.array.whole.Symbol.{name as #segments·array·whole}
-use Rattle.segments.proofs.array.whole.Met as whole-thm
+use Rattle.segments.proofs.array.built_of as whole
+use Rattle.segments.proofs.array.built_of.Symbol as whole-def
+use Rattle.segments.proofs.array.built_of.Symbol.{name as #segments·array·built-of}
+use Rattle.segments.proofs.array.built_of.Met as whole-thm
 use Rattle.segments.proofs.array.build_array.Key.{name as #segments·array·build-array}
 use Rattle.segments.proofs.array.build_array as f
 use Rattle.segments.proofs.array.build_array.Statement as stated
@@ -131,8 +131,8 @@ module _ {M : Type 1} (𝓤 : URA M) (H : Heap 𝓤) (A : Atoms 𝓤) (at-mem : 
   said-entries : (a r : ℕ) → ent 𝓤 (ensured 𝓤 H A entries.ended (entries.clauses 𝓤 H A at-mem run) tt (a, tt) tt r) (fact 𝓤 (r ≡ min a 4096))
   said-entries a r = exE 𝓤 _ (λ us. snd∗ 𝓤 (sem 𝓤 H A (lasts entries.ended tt (a, tt) us)) (fact 𝓤 (r ≡ min a 4096)))
 
-  said-whole : (e : Built) (l : List Segment) (r : BuiltArray) → ent 𝓤 (ensured 𝓤 H A whole.ended (whole.clauses 𝓤 H A at-mem run) tt (e, (l, tt)) tt r) (fact 𝓤 (r ≡ wholeOf e l))
-  said-whole e l r = exE 𝓤 _ (λ us. snd∗ 𝓤 (sem 𝓤 H A (lasts whole.ended tt (e, (l, tt)) us)) (fact 𝓤 (r ≡ wholeOf e l)))
+  said-whole : (e : Built) (l : List Segment) (r : BuiltArray) → ent 𝓤 (ensured 𝓤 H A whole.ended (whole.clauses 𝓤 H A at-mem run) tt (e, (l, tt)) tt r) (fact 𝓤 (r ≡ builtOf e l))
+  said-whole e l r = exE 𝓤 _ (λ us. snd∗ 𝓤 (sem 𝓤 H A (lasts whole.ended tt (e, (l, tt)) us)) (fact 𝓤 (r ≡ builtOf e l)))
 
 module _ {M : Type 1} (𝓤 : URA M) (H : Heap 𝓤) (A : Atoms 𝓤) (W : Given 𝓤 H A) (at-mem : Memory → SProp 𝓤) (run : Routine → Fun 𝓤) (κs : Lfts 10) (qs : Shares 10) (ss : Slices) (v : List Segment) (count : ℕ) (gv : Is AR v (machA v ∷ [])) (gc : count < 2 ^ 64) where
   -- what the shared slices own, and their lifetimes' tokens
@@ -186,7 +186,7 @@ module _ {M : Type 1} (𝓤 : URA M) (H : Heap 𝓤) (A : Atoms 𝓤) (W : Given
   gfew : few < 2 ^ 64
   gfew = lt-of-le-of-lt (min-le-left count 4096) gc
 
-  exits : (r : BuiltArray) → Is X.the-row r (machX r ∷ []) → r ≡ arrayOf (net ss) (journal ss) v count → ent 𝓤 (⋆ 𝓤 H A (raw Toks ∷ ‵ Lent ∷ [])) (Post (machX r))
+  exits : (r : BuiltArray) → Is X.the-row r (machX r ∷ []) → r ≡ builtArray (net ss) (journal ss) v count → ent 𝓤 (⋆ 𝓤 H A (raw Toks ∷ ‵ Lent ∷ [])) (Post (machX r))
   exits r gr e =
       qed W (raw Toks ∷ ‵ Lent ∷ []) ∵ suffices ! _ (ends-at 𝓤 H A f.ended stayed (f.clauses 𝓤 H A at-mem run) W ((κs, qs, tt, args, vals″), tt) (machX r) r (tt, (tt, (tt, (tt, (tt, (tt, (tt, (tt, (tt, (tt, (tt, (tt, tt)))))))))))) (tt, (tt, (tt, (tt, (tt, (tt, (tt, (tt, (tt, (tt, (tt, (tt, tt))))))))))))) $ says ! e $ frame ! $
       owned ! AR (Is AR) (array-makes 𝓤 H A W S.the-row ((LL.makes S.the-type S′.the-plain) 𝓤 H A) 4096) v _ gv $ move ! (1 ∷ 0 ∷ []) $ use2 W (‵ (owns Ts′ args′ vals′)) (owns-in 𝓤 H A W Ts AR ss vs v (machA v ∷ [])) $
@@ -231,7 +231,7 @@ module _ {M : Type 1} (𝓤 : URA M) (H : Heap 𝓤) (A : Atoms 𝓤) (W : Given
   front-long : length v ≡ 4096 → length front ≡ few
   front-long e = length-take-le few v (subst (λ (m : ℕ). few ≤ m) (sym e) (min-le-right count 4096))
 
-  module _ (𝓣 : Tables 𝓤 H) (fm : FmC 𝓤 H (W .laws) (𝓣 .C)) (known-entries : Triple 𝓤 (𝓣 .C #segments·array·entries) (Entries 𝓤 H A at-mem run)) (known-inner : Triple 𝓤 (𝓣 .C #segments·build·build-path-from-viterbi) (Inner 𝓤 H A at-mem run)) (known-whole : Triple 𝓤 (𝓣 .C #segments·array·whole) (Whole 𝓤 H A at-mem run)) (l₀ l₁ l₂ l₃ l₄ l₅ l₆ l₇ l₈ l₉ l₁₀ l₁₁ l₁₂ l₁₃ l₁₄ l₁₅ l₁₆ l₁₇ l₁₈ : ℕ) where
+  module _ (𝓣 : Tables 𝓤 H) (fm : FmC 𝓤 H (W .laws) (𝓣 .C)) (known-entries : Triple 𝓤 (𝓣 .C #segments·array·entries) (Entries 𝓤 H A at-mem run)) (known-inner : Triple 𝓤 (𝓣 .C #segments·build·build-path-from-viterbi) (Inner 𝓤 H A at-mem run)) (known-whole : Triple 𝓤 (𝓣 .C #segments·array·built-of) (Whole 𝓤 H A at-mem run)) (l₀ l₁ l₂ l₃ l₄ l₅ l₆ l₇ l₈ l₉ l₁₀ l₁₁ l₁₂ l₁₃ l₁₄ l₁₅ l₁₆ l₁₇ l₁₈ : ℕ) where
     abbrev C : Calls 𝓤 H
     C = 𝓣 .C
 
@@ -258,14 +258,14 @@ module _ {M : Type 1} (𝓤 : URA M) (H : Heap 𝓤) (A : Atoms 𝓤) (W : Given
         ∷ ‵ (fat fullShare (shared 2 (tyInt w32)) l₃ 0 (valOf (ss .1 .1 .0))) ∷ ‵ (fdies (shared 2 (tyInt w32)) l₃) ∷ ‵ (fat fullShare (shared 1 (tyFloat binary64)) l₂ 0 (valOf (ss .1 .0))) ∷ ‵ (fdies (shared 1 (tyFloat binary64)) l₂)
         ∷ ‵ (fat fullShare (shared 0 (tyFloat binary64)) l₁ 0 (valOf (ss .0))) ∷ ‵ (fdies (shared 0 (tyFloat binary64)) l₁) ∷ ‵ (froom X′.mir l₀ 0) ∷ ‵ (fdies X′.mir l₀) ∷ []
 
-    gives : (r : Built) (zs : List Segment) → Is E.the-row r (machE r ∷ []) → Is AR zs (machA zs ∷ []) → wholeOf r zs ≡ arrayOf (net ss) (journal ss) v count → Sq W (Back r zs) (runs C Λ En steps.t-6 (atRet En Post))
+    gives : (r : Built) (zs : List Segment) → Is E.the-row r (machE r ∷ []) → Is AR zs (machA zs ∷ []) → builtOf r zs ≡ builtArray (net ss) (journal ss) v count → Sq W (Back r zs) (runs C Λ En steps.t-6 (atRet En Post))
     gives r zs gr gz e =
         assigns ! (of-opd ! (load ! (from ! (stop !)) (look ! 12 refl))) (from ! (stop !)) (init ! 2 refl (typedA zs _ gz)) $
         nothing ! $ owned ! AR (Is AR) (array-makes 𝓤 H A W S.the-row ((LL.makes S.the-type S′.the-plain) 𝓤 H A) 4096) zs _ gz $ fjoin ! $ owned ! E.the-row (Is E.the-row) ((EL.makes E.the-type E′.the-plain) 𝓤 H A) r _ gr $ fjoin ! $
         use1 W (raw (Whole 𝓤 H A at-mem run .pre (to-whole r zs))) (goes-whole r zs) $
         calls-at ! fm (Whole 𝓤 H A at-mem run) known-whole (to-whole r zs) (and-then ! (load ! (from ! (stop !)) (look ! 9 refl)) (and-then ! (load ! (from ! (stop !)) (look ! 3 refl)) (no-more !))) (λ z.
         use1 W (later (some (λ (x : BuiltArray). (‵ ftrue ⊛ ‵ (X.the-row .own x (z ∷ []))) ⊛ raw (ensured 𝓤 H A whole.ended (whole.clauses 𝓤 H A at-mem run) tt (r, (zs, tt)) tt x)))) (id⊢ 𝓤 _) $ await ! tt $ pick ! (λ x.
-        split ! $ move ! (1 ∷ []) $ use1 W (raw (fact 𝓤 (x ≡ wholeOf r zs))) (said-whole 𝓤 H A at-mem run r zs x) $ heard ! (x ≡ wholeOf r zs) (λ ex. split ! $ drop ! $
+        split ! $ move ! (1 ∷ []) $ use1 W (raw (fact 𝓤 (x ≡ builtOf r zs))) (said-whole 𝓤 H A at-mem run r zs x) $ heard ! (x ≡ builtOf r zs) (λ ex. split ! $ drop ! $
         peeks ! X.the-row (Is X.the-row) (shows 𝓤 H A X.the-row) x (z ∷ []) (λ is.
         land ! (from ! (stop !)) (init ! 39 refl (LL.lawful X.the-type X′.the-laws 𝓤 H A W .typed x _ is .0)) $
         drop ! $ rewrite ! 38 (λ (y : Val). ‵ (fat fullShare X′.mir l₀ 0 y)) (ap only (LL.tells X.the-type X′.the-laws x _ is)) refl $
@@ -339,9 +339,9 @@ module _ {M : Type 1} (𝓤 : URA M) (H : Heap 𝓤) (A : Atoms 𝓤) (W : Given
         use1 W (‵ (fat fullShare arr l₁₃ 0 (machA (us .1 .1 .1 .1 .1 .1 .1 .1 .1 .1 .0 ++ others)))) (W .laws .raw-at fullShare arr l₁₃ 0 (machA (us .1 .1 .1 .1 .1 .1 .1 .1 .1 .1 .0 ++ others))) $ move ! (1 ∷ []) $ drop ! $
         -- [the array; the tokens; …; the shared slices; the last local at 4; …]
         keep ! (1 ∷ 3 ∷ 4 ∷ 5 ∷ 6 ∷ 7 ∷ 8 ∷ 9 ∷ 10 ∷ 11 ∷ 12 ∷ 13 ∷ 0 ∷ 14 ∷ 15 ∷ 16 ∷ 17 ∷ 18 ∷ 19 ∷ 20 ∷ 21 ∷ 22 ∷ 23 ∷ 24 ∷ 25 ∷ 26 ∷ 27 ∷ 28 ∷ 29 ∷ 30 ∷ 31 ∷ 32 ∷ 33 ∷ 34 ∷ 35 ∷ 36 ∷ 37 ∷ 38 ∷ 39 ∷ 40 ∷ []) $
-        gives r (us .1 .1 .1 .1 .1 .1 .1 .1 .1 .1 .0 ++ others) (subst (Is E.the-row r) (EL.tells E.the-type E′.the-laws r _ is) is) (is-at (us .1 .1 .1 .1 .1 .1 .1 .1 .1 .1 .0 ++ others) ws gz) (λ i. wholeOf (e i) (e′ i ++ others)))))))))))))))))))
+        gives r (us .1 .1 .1 .1 .1 .1 .1 .1 .1 .1 .0 ++ others) (subst (Is E.the-row r) (EL.tells E.the-type E′.the-laws r _ is) is) (is-at (us .1 .1 .1 .1 .1 .1 .1 .1 .1 .1 .0 ++ others) ws gz) (λ i. builtOf (e i) (e′ i ++ others)))))))))))))))))))
 
-  walk : (𝓣 : Tables 𝓤 H) → FmC 𝓤 H (W .laws) (𝓣 .C) → Triple 𝓤 (𝓣 .C #segments·array·entries) (Entries 𝓤 H A at-mem run) → Triple 𝓤 (𝓣 .C #segments·build·build-path-from-viterbi) (Inner 𝓤 H A at-mem run) → Triple 𝓤 (𝓣 .C #segments·array·whole) (Whole 𝓤 H A at-mem run) → Rooms ss
+  walk : (𝓣 : Tables 𝓤 H) → FmC 𝓤 H (W .laws) (𝓣 .C) → Triple 𝓤 (𝓣 .C #segments·array·entries) (Entries 𝓤 H A at-mem run) → Triple 𝓤 (𝓣 .C #segments·build·build-path-from-viterbi) (Inner 𝓤 H A at-mem run) → Triple 𝓤 (𝓣 .C #segments·array·built-of) (Whole 𝓤 H A at-mem run) → Rooms ss
       → ent 𝓤 (onEntry 𝓤 H A f.signature κs qs args vals″) (WpFn 𝓤 H (𝓣 .C) (𝓣 .Λ) code.function (valOf (ss .0) ∷ valOf (ss .1 .0) ∷ valOf (ss .1 .1 .0) ∷ valOf (ss .1 .1 .1 .0) ∷ valOf (ss .1 .1 .1 .1 .0) ∷ valOf (ss .1 .1 .1 .1 .1 .0) ∷ valOf (ss .1 .1 .1 .1 .1 .1 .0) ∷ valOf (ss .1 .1 .1 .1 .1 .1 .1 .0) ∷ valOf (ss .1 .1 .1 .1 .1 .1 .1 .1 .0) ∷ valOf (ss .1 .1 .1 .1 .1 .1 .1 .1 .1 .0) ∷ machA v ∷ vint w64 count ∷ []) Post)
   walk 𝓣 fm known-entries known-inner known-whole gs =
       entry 𝓤 H A W (𝓣 .C) (𝓣 .Λ) Post 10 12 (local X′.mir valueLocal ∷ local (shared 0 (tyFloat binary64)) valueLocal ∷ local (shared 1 (tyFloat binary64)) valueLocal ∷ local (shared 2 (tyInt w32)) valueLocal ∷ local (shared 3 (tyInt w32)) valueLocal ∷ local (shared 4 (tyInt w32)) valueLocal ∷ local (shared 5 (tyInt w32)) valueLocal ∷ local (shared 6 (tyInt w32)) valueLocal ∷ local (shared 7 (tyInt w32)) valueLocal ∷ local (shared 8 (tyInt w32)) valueLocal ∷ local (shared 9 (tyInt w32)) valueLocal ∷ local arr valueLocal ∷ local word valueLocal ∷ local arr memorySlot ∷ local word valueLocal ∷ local E′.mir valueLocal ∷ local ref valueLocal ∷ local slice valueLocal ∷ local arr valueLocal ∷ []) steps.t-1 (valOf (ss .0) ∷ valOf (ss .1 .0) ∷ valOf (ss .1 .1 .0) ∷ valOf (ss .1 .1 .1 .0) ∷ valOf (ss .1 .1 .1 .1 .0) ∷ valOf (ss .1 .1 .1 .1 .1 .0) ∷ valOf (ss .1 .1 .1 .1 .1 .1 .0) ∷ valOf (ss .1 .1 .1 .1 .1 .1 .1 .0) ∷ valOf (ss .1 .1 .1 .1 .1 .1 .1 .1 .0) ∷ valOf (ss .1 .1 .1 .1 .1 .1 .1 .1 .1 .0) ∷ machA v ∷ vint w64 count ∷ [])
@@ -350,7 +350,7 @@ module _ {M : Type 1} (𝓤 : URA M) (H : Heap 𝓤) (A : Atoms 𝓤) (W : Given
       pass1 ! (init ! 34 refl (tt, (tt, (record { fits = gs .0 .0 }, tt)))) $ pass1 ! (init ! 32 refl (tt, (tt, (record { fits = gs .1 .0 .0 }, tt)))) $ pass1 ! (init ! 30 refl (tt, (tt, (record { fits = gs .1 .1 .0 .0 }, tt)))) $ pass1 ! (init ! 28 refl (tt, (tt, (record { fits = gs .1 .1 .1 .0 .0 }, tt)))) $ pass1 ! (init ! 26 refl (tt, (tt, (record { fits = gs .1 .1 .1 .1 .0 .0 }, tt)))) $ pass1 ! (init ! 24 refl (tt, (tt, (record { fits = gs .1 .1 .1 .1 .1 .0 .0 }, tt)))) $ pass1 ! (init ! 22 refl (tt, (tt, (record { fits = gs .1 .1 .1 .1 .1 .1 .0 .0 }, tt)))) $ pass1 ! (init ! 20 refl (tt, (tt, (record { fits = gs .1 .1 .1 .1 .1 .1 .1 .0 .0 }, tt)))) $ pass1 ! (init ! 18 refl (tt, (tt, (record { fits = gs .1 .1 .1 .1 .1 .1 .1 .1 .0 .0 }, tt)))) $ pass1 ! (init ! 16 refl (tt, (tt, (record { fits = gs .1 .1 .1 .1 .1 .1 .1 .1 .1 .0 .0 }, tt)))) $ pass1 ! (init ! 14 refl (typedA v _ gv)) $ pass1 ! (init ! 12 refl (tt, record { fits = gc })) $ pass0 ! $
       by ! (lends 𝓣 fm known-entries known-inner known-whole l₀ l₁ l₂ l₃ l₄ l₅ l₆ l₇ l₈ l₉ l₁₀ l₁₁ l₁₂ l₁₃ l₁₄ l₁₅ l₁₆ l₁₇ l₁₈))
 
-module _ {M : Type 1} (𝓤 : URA M) (H : Heap 𝓤) (A : Atoms 𝓤) (W : Given 𝓤 H A) (at-mem : Memory → SProp 𝓤) (run : Routine → Fun 𝓤) (𝓣 : Tables 𝓤 H) (known-entries : Triple 𝓤 (𝓣 .C #segments·array·entries) (Entries 𝓤 H A at-mem run)) (known-inner : Triple 𝓤 (𝓣 .C #segments·build·build-path-from-viterbi) (Inner 𝓤 H A at-mem run)) (known-whole : Triple 𝓤 (𝓣 .C #segments·array·whole) (Whole 𝓤 H A at-mem run)) where
+module _ {M : Type 1} (𝓤 : URA M) (H : Heap 𝓤) (A : Atoms 𝓤) (W : Given 𝓤 H A) (at-mem : Memory → SProp 𝓤) (run : Routine → Fun 𝓤) (𝓣 : Tables 𝓤 H) (known-entries : Triple 𝓤 (𝓣 .C #segments·array·entries) (Entries 𝓤 H A at-mem run)) (known-inner : Triple 𝓤 (𝓣 .C #segments·build·build-path-from-viterbi) (Inner 𝓤 H A at-mem run)) (known-whole : Triple 𝓤 (𝓣 .C #segments·array·built-of) (Whole 𝓤 H A at-mem run)) where
   array-walks : Walks 𝓤 H A f.ended stayed (WpFn 𝓤 H (𝓣 .C) (𝓣 .Λ) code.function) (f.clauses 𝓤 H A at-mem run)
   array-walks = walked 𝓤 H A f.ended stayed (f.clauses 𝓤 H A at-mem run) (WpFn 𝓤 H (𝓣 .C) (𝓣 .Λ) code.function)
       (λ κs. (slice-vals, (slice-vals, (slice-vals, (slice-vals, (slice-vals, (slice-vals, (slice-vals, (slice-vals, (slice-vals, (slice-vals, (array-vals (LL.vals S.the-type S′.the-laws), (uint-vals w64, tt))))))))))))) (λ κs. (shr-slice-tells (named 0) (κs .0) f64, (shr-slice-tells (named 1) (κs .1 .0) f64, (shr-slice-tells (named 2) (κs .1 .1 .0) u32, (shr-slice-tells (named 3) (κs .1 .1 .1 .0) u32, (shr-slice-tells (named 4) (κs .1 .1 .1 .1 .0) u32, (shr-slice-tells (named 5) (κs .1 .1 .1 .1 .1 .0) u32, (shr-slice-tells (named 6) (κs .1 .1 .1 .1 .1 .1 .0) u32, (shr-slice-tells (named 7) (κs .1 .1 .1 .1 .1 .1 .1 .0) u32, (shr-slice-tells (named 8) (κs .1 .1 .1 .1 .1 .1 .1 .1 .0) u32, (shr-slice-tells (named 9) (κs .1 .1 .1 .1 .1 .1 .1 .1 .1 .0) u32, (array-tells S.the-row (LL.vals S.the-type S′.the-laws) (LL.tells S.the-type S′.the-laws) 4096, (uint-tells w64, tt)))))))))))))
@@ -368,4 +368,4 @@ build-array-spec 𝓤 H 𝓜 𝓖 𝓡 =
     (array-meets 𝓤 H (𝓖 .A) (givenOf 𝓤 H 𝓜 𝓖) (𝓜 .mem) (𝓡 .run) (tablesOf 𝓤 H 𝓜 (tables 𝓤 H 𝓜 𝓡 code.env))
     (cited 𝓤 H (Entries 𝓤 H (𝓖 .A) (𝓜 .mem) (𝓡 .run)) 𝓜 𝓡 code.env #segments·array·entries entries-def.routine code.calls-segments·array·entries (entries-thm.met 𝓤 H 𝓜 𝓖 𝓡))
     (cited 𝓤 H (Inner 𝓤 H (𝓖 .A) (𝓜 .mem) (𝓡 .run)) 𝓜 𝓡 code.env #segments·build·build-path-from-viterbi inner-def.routine code.calls-segments·build·build-path-from-viterbi (inner-thm.met 𝓤 H 𝓜 𝓖 𝓡))
-    (cited 𝓤 H (Whole 𝓤 H (𝓖 .A) (𝓜 .mem) (𝓡 .run)) 𝓜 𝓡 code.env #segments·array·whole whole-def.routine code.calls-segments·array·whole (whole-thm.met 𝓤 H 𝓜 𝓖 𝓡)))
+    (cited 𝓤 H (Whole 𝓤 H (𝓖 .A) (𝓜 .mem) (𝓡 .run)) 𝓜 𝓡 code.env #segments·array·built-of whole-def.routine code.calls-segments·array·built-of (whole-thm.met 𝓤 H 𝓜 𝓖 𝓡)))
