@@ -182,13 +182,14 @@ fn leg(random: &mut Random, out: &mut String, habits: &Habits, document: &mut Do
 
 pub fn drive(random: &mut Random, out: &mut String, network: &Network) {
     let Settings { beta, scale } = settings(random);
-    let words = if random.chance(2) { random.below(200) } else { random.pick(&[20_000, 65_536, 262_144]) };
-    writeln!(out, "settings {} {}\njournal {words}", float(beta), float(scale)).unwrap();
+    let words = if random.chance(2) { random.between(1, 200) } else { random.pick(&[20_000, 65_536, 262_144]) };
+    let without_words = if random.chance(1) { "journal 0\nfeed 0 0\nstrike 0\nclose\nsegments\n" } else { "" };
+    writeln!(out, "settings {} {}\n{without_words}journal {words}", float(beta), float(scale)).unwrap();
     let habits = habits(random);
     let mut document = Document::new(network);
     let mut standing = Vec::new();
     let legs = if random.chance(10) { 2 } else { 1 };
-    for _ in 0..if words == 0 { 0 } else { legs } {
+    for _ in 0..legs {
         leg(random, out, &habits, &mut document, &mut standing, words as usize);
     }
 }
