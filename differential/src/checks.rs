@@ -1,8 +1,9 @@
-//! What document 01 refuses, by number, over what a call takes. Journals here are only ever fed and struck.
+//! What document 01 refuses, by number, over what a call takes.
 
+use crate::journal::{predecessor, Row};
 use crate::language::{Candidate, Fix, Network, Segment, Settings};
 
-fn within(value: f64, low: f64, high: f64) -> bool {
+pub fn within(value: f64, low: f64, high: f64) -> bool {
     value >= low && value <= high
 }
 
@@ -10,7 +11,7 @@ fn first(checks: &[(u32, bool)]) -> Option<u32> {
     checks.iter().find(|(_, refused)| *refused).map(|(number, _)| *number)
 }
 
-/// Checks 1 to 5.
+/// Checks 1 to 5; that no field is cut short is seen before.
 pub fn network(network: &Network) -> Option<u32> {
     let Network { elements, relations } = network;
     first(&[
@@ -29,7 +30,7 @@ pub fn settings(settings: Settings) -> Option<u32> {
     (!accepted).then_some(6)
 }
 
-fn candidate_in_range(candidate: &Candidate, elements: usize) -> bool {
+pub fn candidate(candidate: &Candidate, elements: usize) -> bool {
     (candidate.element as usize) < elements
         && within(candidate.intrinsic, 0.0, 1.0)
         && candidate.intrinsic.is_sign_positive()
@@ -37,37 +38,31 @@ fn candidate_in_range(candidate: &Candidate, elements: usize) -> bool {
         && (candidate.raw_log == f64::NEG_INFINITY || within(candidate.raw_log, -745.0, 0.0))
 }
 
-/// Check 9 on the standing rows.
-pub fn standing(fixes: &[Fix], elements: usize) -> Option<u32> {
-    let known = |candidate: &Candidate| (candidate.element as usize) < elements;
-    (!fixes.iter().all(|fix| fix.candidates.iter().all(known))).then_some(9)
+pub fn distance(distance: f64) -> bool {
+    within(distance, 0.0, 20_100_000.0)
 }
 
-/// Checks 8 to 12 on a fix behind the standing ones, in a journal of so many words.
-pub fn fix(fix: &Fix, standing_fixes: &[Fix], elements: usize, words: usize) -> Option<u32> {
-    let predecessors = predecessor(standing_fixes).map_or(0, |row| standing_fixes[row].candidates.len());
-    let used: usize = 1 + standing_fixes.iter().map(record_length).sum::<usize>();
+/// Check 9 on the standing rows.
+pub fn standing(rows: &[Row], elements: usize) -> Option<u32> {
+    let known = |candidate: &Candidate| (candidate.element as usize) < elements;
+    (!rows.iter().all(|row| row.fix.candidates.iter().all(known))).then_some(9)
+}
+
+/// Checks 8 to 12 on a fix behind the standing rows, with so many words past the used ones.
+pub fn fix(fix: &Fix, rows: &[Row], elements: usize, free: usize) -> Option<u32> {
+    let before = predecessor(rows).map_or(0, |row| rows[row].cells.len());
     first(&[
         (8, fix.candidates.len() > 16),
-        (9, standing(standing_fixes, elements).is_some() || !fix.candidates.iter().all(|c| candidate_in_range(c, elements))),
-        (10, fix.distances.len() != fix.candidates.len() * predecessors),
-        (10, fix.distances.iter().any(|&d| !within(d, 0.0, 20_100_000.0))),
-        (11, standing_fixes.len() >= 65_535),
-        (12, used + record_length(fix) > words),
+        (9, standing(rows, elements).is_some() || !fix.candidates.iter().all(|c| candidate(c, elements))),
+        (10, fix.distances.len() != fix.candidates.len() * before || !fix.distances.iter().all(|&d| distance(d))),
+        (11, rows.len() >= 65_535),
+        (12, record_length(fix) > free),
     ])
 }
 
-/// The words of a row's record.
+/// The words of a fix's record.
 pub fn record_length(fix: &Fix) -> usize {
     7 * fix.candidates.len() + 2 * fix.distances.len() + 3
-}
-
-/// The latest row with a finite score. From the first row that has a finite raw log on, every row that has candidates scores.
-pub fn predecessor(fixes: &[Fix]) -> Option<usize> {
-    let scores_alone = |fix: &Fix| fix.candidates.iter().any(|c| c.raw_log != f64::NEG_INFINITY);
-    let first = fixes.iter().position(scores_alone)?;
-    let latest = fixes.iter().rposition(|fix| !fix.candidates.is_empty())?;
-    Some(latest.max(first))
 }
 
 /// Check 14.

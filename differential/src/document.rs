@@ -1,10 +1,11 @@
 //! Document 01's decoding: the step score, rows, closing and listing steps. With routes and segments it is a second reading of the
 //! document, written without the original.
 
+use crate::journal::{predecessor, Cell, Row};
 use crate::language::{Candidate, Element, Fix, Network, Segment, Settings, Side};
 use crate::routes::{Route, Routes};
 use crate::segments;
-use crate::session::{Cell, Core, Decision, Decoded, Step};
+use crate::session::{Core, Decision, Path, Step, Unasked};
 
 const FLOOR: f64 = -23.025850929940457;
 const PENALTY: f64 = -23.0;
@@ -71,14 +72,17 @@ impl Document {
         best
     }
 
-    /// The possible steps into a row, own candidate outer.
-    fn steps(&mut self, settings: Settings, before: (usize, &Fix, &[Cell]), row: usize, fix: &Fix) -> Vec<Step> {
+    /// The possible steps into a fix behind the standing rows, own candidate outer.
+    fn steps_into(&mut self, settings: Settings, rows: &[Row], fix: &Fix) -> Vec<Step> {
         let mut steps = Vec::new();
+        let Some(before) = predecessor(rows) else {
+            return steps;
+        };
         for (own, to) in fix.candidates.iter().enumerate() {
-            for (its, from) in before.1.candidates.iter().enumerate() {
-                let finite = before.2[its].score != f64::NEG_INFINITY;
+            for (its, from) in rows[before].fix.candidates.iter().enumerate() {
+                let finite = rows[before].cells[its].score != f64::NEG_INFINITY;
                 let score = finite.then(|| self.step(settings, from, to, fix.distance(its, own))).flatten();
-                steps.extend(score.map(|score| Step { before: before.0, its, row, own, score }));
+                steps.extend(score.map(|score| Step { before, its, row: rows.len(), own, score }));
             }
         }
         steps
@@ -103,10 +107,6 @@ fn last_best(cells: &[Cell]) -> usize {
     cells.iter().rposition(|cell| cell.score == best).unwrap()
 }
 
-fn scores(cells: &[Cell]) -> bool {
-    cells.iter().any(|cell| cell.score != f64::NEG_INFINITY)
-}
-
 fn make_row(fix: &Fix, previous: Option<&[Cell]>, steps: &[Step]) -> Vec<Cell> {
     let floored = |candidate: &Candidate| if candidate.raw_log > FLOOR { candidate.raw_log } else { FLOOR };
     let candidates = fix.candidates.iter().enumerate();
@@ -122,19 +122,18 @@ fn make_row(fix: &Fix, previous: Option<&[Cell]>, steps: &[Step]) -> Vec<Cell> {
 }
 
 /// Starts at the last of equal best candidates of the last scoring row and follows parents.
-fn path(rows: &[Vec<Cell>]) -> Option<(f64, Vec<(usize, usize)>)> {
-    let scoring: Vec<usize> = (0..rows.len()).filter(|&row| scores(&rows[row])).collect();
-    let mut at = *scoring.last()?;
-    let mut candidate = last_best(&rows[at]);
-    let score = rows[at][candidate].score;
-    let mut path = vec![(at, candidate)];
-    while let Some(parent) = rows[at][candidate].parent {
-        at = *scoring.iter().rfind(|&&row| row < at).unwrap();
+pub fn close(rows: &[Row]) -> Option<Path> {
+    let mut row = predecessor(rows)?;
+    let mut candidate = last_best(&rows[row].cells);
+    let score = rows[row].cells[candidate].score;
+    let mut states = vec![(row, candidate)];
+    while let Some(parent) = rows[row].cells[candidate].parent {
+        row = predecessor(&rows[..row]).expect("a parent lies in a predecessor");
         candidate = parent;
-        path.push((at, candidate));
+        states.push((row, candidate));
     }
-    path.reverse();
-    Some((score, path))
+    states.reverse();
+    Some(Path { score, states })
 }
 
 impl Core for Document {
@@ -150,24 +149,22 @@ impl Core for Document {
         self.routes.triple(elements)
     }
 
-    fn decode(&mut self, settings: Settings, fixes: &[Fix]) -> Decoded {
-        let mut decoded = Decoded::default();
-        for (row, fix) in fixes.iter().enumerate() {
-            let before = if fix.candidates.is_empty() { None } else { decoded.rows.iter().rposition(|cells| scores(cells)) };
-            let previous = before.map(|before| decoded.rows[before].as_slice());
-            let steps = before.zip(previous).map_or(Vec::new(), |(b, cells)| self.steps(settings, (b, &fixes[b], cells), row, fix));
-            let cells = make_row(fix, previous, &steps);
-            decoded.rows.push(cells);
-            decoded.steps.extend(steps);
-        }
-        let closed = path(&decoded.rows);
-        decoded.score = closed.as_ref().map(|(score, _)| *score);
-        decoded.path = closed.map_or(Vec::new(), |(_, path)| path);
-        decoded
+    fn row(&mut self, settings: Settings, rows: &[Row], fix: &Fix) -> Result<Vec<Cell>, Unasked> {
+        let steps = self.steps_into(settings, rows, fix);
+        let previous = predecessor(rows).map(|before| rows[before].cells.as_slice());
+        Ok(make_row(fix, previous, &steps))
     }
 
-    fn segments(&mut self, fixes: &[Fix], decoded: &Decoded) -> Vec<Segment> {
-        segments::build(&mut self.routes, fixes, &decoded.path)
+    fn steps(&mut self, settings: Settings, rows: &[Row], row: usize) -> Result<Vec<Step>, Unasked> {
+        Ok(self.steps_into(settings, &rows[..row], &rows[row].fix))
+    }
+
+    fn close(&mut self, _: Settings, rows: &[Row]) -> Result<Option<Path>, Unasked> {
+        Ok(close(rows))
+    }
+
+    fn segments(&mut self, _: Settings, rows: &[Row]) -> Result<Vec<Segment>, Unasked> {
+        Ok(segments::build(&mut self.routes, rows))
     }
 
     fn collapse(&mut self, list: &[Segment]) -> (Vec<Segment>, Vec<Decision>) {

@@ -1,11 +1,34 @@
 //! Makes drives on a network, questions about routes, and lists to collapse, as case text.
 
-use crate::checks;
 use crate::document::Document;
-use crate::language::{Candidate, Fix, Network, Settings};
+use crate::journal::{predecessor, Row};
+use crate::language::{Candidate, Fix, Network, Settings, Words};
 use crate::networks::{self, float};
 use crate::random::Random;
+use crate::session::Session;
 use std::fmt::Write;
+
+/// The text so far, and where it leads by document 01.
+struct Script<'a> {
+    out: &'a mut String,
+    session: Session<Document>,
+}
+
+impl Script<'_> {
+    /// Writes commands and performs them.
+    fn say(&mut self, text: &str) {
+        self.out.push_str(text);
+        self.out.push('\n');
+        let mut words = Words::new(text);
+        while let Some(command) = words.command().expect("our own words") {
+            self.session.perform_silently(&command);
+        }
+    }
+
+    fn rows(&self) -> Vec<Row> {
+        self.session.standing()
+    }
+}
 
 /// What a drive's fixes are drawn from.
 struct Habits {
@@ -17,6 +40,8 @@ struct Habits {
     whole: bool,
     strikes: u32,
     faults: u32,
+    shorts: u32,
+    changes: u32,
 }
 
 fn habits(random: &mut Random) -> Habits {
@@ -29,6 +54,8 @@ fn habits(random: &mut Random) -> Habits {
         whole: random.chance(50),
         strikes: random.pick(&[0, 0, 10, 30]),
         faults: random.pick(&[0, 0, 0, 0, 10]),
+        shorts: if random.chance(5) { 10 } else { 0 },
+        changes: if random.chance(3) { 20 } else { 0 },
     }
 }
 
@@ -93,15 +120,16 @@ fn distance(random: &mut Random, document: &mut Document, from: &Candidate, to: 
     }
 }
 
-fn fix(random: &mut Random, habits: &Habits, document: &mut Document, standing: &[Fix]) -> Fix {
-    let elements = document.routes.elements() as u32;
+fn fix(random: &mut Random, habits: &Habits, script: &mut Script) -> Fix {
+    let rows = script.rows();
+    let elements = script.session.network.elements.len() as u32;
     let most = if random.below(400) == 0 { 16 } else { habits.most_candidates };
     let count = if elements == 0 || random.chance(habits.empty) { 0 } else { random.between(1, most) };
-    let before = checks::predecessor(standing).map(|row| &standing[row]);
+    let before = predecessor(&rows).map(|row| &rows[row].fix);
     let candidates: Vec<Candidate> = (0..count).map(|_| candidate(random, habits, elements, before)).collect();
     let mut distances = Vec::new();
     for from in before.map_or(&[][..], |fix| &fix.candidates) {
-        distances.extend(candidates.iter().map(|to| distance(random, document, from, to)));
+        distances.extend(candidates.iter().map(|to| distance(random, &mut script.session.core, from, to)));
     }
     Fix { candidates, distances }
 }
@@ -123,29 +151,63 @@ fn spoil(random: &mut Random, fix: &mut Fix) {
     }
 }
 
-fn write_fix(out: &mut String, fix: &Fix) {
-    writeln!(out, "feed {} {}", fix.candidates.len(), fix.distances.len()).unwrap();
+fn fix_text(fix: &Fix) -> String {
+    let mut out = format!("feed {} {}", fix.candidates.len(), fix.distances.len());
     for c in &fix.candidates {
-        writeln!(out, "{} {} {} {}", c.element, float(c.intrinsic), c.near, float(c.raw_log)).unwrap();
+        write!(out, "\n{} {} {} {}", c.element, float(c.intrinsic), c.near, float(c.raw_log)).unwrap();
     }
     if !fix.distances.is_empty() {
         let distances: Vec<String> = fix.distances.iter().copied().map(float).collect();
-        writeln!(out, "{}", distances.join(" ")).unwrap();
+        write!(out, "\n{}", distances.join(" ")).unwrap();
+    }
+    out
+}
+
+const OF_ELEMENTS: &[&str] = &["lengths", "headings", "flags"];
+const OF_RELATIONS: &[&str] = &["from", "to", "from_side", "to_side", "forward", "backward"];
+const OF_FIX: &[&str] = &["elements", "intrinsics", "near", "raw_logs"];
+const OF_ANSWER: &[&str] = &["answer"];
+const OF_DISTANCES: &[&str] = &["distances"];
+const OF_DECISIONS: &[&str] = &["decisions"];
+
+/// Cuts one of the slices that the next call takes, or all that belong together.
+fn cut(random: &mut Random, script: &mut Script, taken: &[&[&str]]) {
+    let slices = random.pick(taken);
+    let count = random.below(5);
+    let one = random.pick(slices);
+    let together = random.chance(40);
+    for slice in slices.iter().filter(|slice| together || **slice == one) {
+        let per = if *slice == "headings" { 4 } else { 1 };
+        script.say(&format!("short {slice} {}", per * count));
+    }
+}
+
+/// A call, now and then with a slice cut short.
+fn call(random: &mut Random, script: &mut Script, habits: &Habits, taken: &[&[&str]], text: &str) {
+    if random.chance(habits.shorts) {
+        cut(random, script, taken);
+    }
+    script.say(text);
+    if random.chance(habits.shorts) && !text.starts_with("feed") {
+        script.say("kept");
     }
 }
 
 /// Everything that can be asked about the standing rows.
-fn ask(random: &mut Random, out: &mut String, rows: usize) {
-    out.push_str("close\n");
-    for row in 0..rows {
-        writeln!(out, "row {row}\nsteps {row}").unwrap();
+fn ask(random: &mut Random, script: &mut Script, habits: &Habits) {
+    let rows = script.rows().len();
+    call(random, script, habits, &[OF_ANSWER], "close");
+    for row in 0..rows + random.chance(2) as usize {
+        call(random, script, habits, &[OF_ANSWER, OF_DISTANCES], &format!("row {row}"));
+        call(random, script, habits, &[OF_ELEMENTS, OF_RELATIONS, OF_ANSWER], &format!("steps {row}"));
     }
-    out.push_str("segments\ncollapse built\n");
+    call(random, script, habits, &[OF_ELEMENTS, OF_RELATIONS, OF_ANSWER], "segments");
+    call(random, script, habits, &[OF_DECISIONS], "collapse built");
     if random.chance(10) {
-        out.push_str("words\nkept\n");
+        script.say("kept words");
     }
     if random.chance(2) {
-        writeln!(out, "row {rows}\nsteps {rows}\nstrike {}", rows + 1).unwrap();
+        script.say(&format!("strike {}", rows + 1));
     }
 }
 
@@ -159,38 +221,76 @@ fn row_count(random: &mut Random) -> u32 {
     }
 }
 
+/// Other settings, or another network of as many elements, under the standing rows.
+fn change(random: &mut Random, script: &mut Script) {
+    let Settings { beta, scale } = settings(random);
+    let mut text = format!("settings {} {}", float(beta), float(scale));
+    if random.chance(40) {
+        let elements = script.session.network.elements.len() as u32 - random.chance(20) as u32;
+        text = networks::text(&networks::sized(random, elements));
+    }
+    script.say(&text);
+}
+
 /// Feeds fixes and strikes some of them again.
-fn leg(random: &mut Random, out: &mut String, habits: &Habits, document: &mut Document, standing: &mut Vec<Fix>, words: usize) {
+fn leg(random: &mut Random, script: &mut Script, habits: &Habits) {
     for _ in 0..row_count(random) {
-        let mut next = fix(random, habits, document, standing);
+        let mut next = fix(random, habits, script);
         if random.chance(habits.faults) {
             spoil(random, &mut next);
         }
-        write_fix(out, &next);
-        if checks::fix(&next, standing, document.routes.elements(), words).is_none() {
-            standing.push(next);
-        }
+        call(random, script, habits, &[OF_ELEMENTS, OF_RELATIONS, OF_FIX, OF_DISTANCES], &fix_text(&next));
         if random.chance(habits.strikes) {
-            let most = if random.chance(70) { standing.len().min(1) } else { standing.len() };
-            let count = random.below(most as u32 + 1) as usize;
-            writeln!(out, "strike {count}").unwrap();
-            standing.truncate(standing.len() - count);
+            let most = script.rows().len().min(if random.chance(70) { 1 } else { usize::MAX });
+            script.say(&format!("strike {}", random.below(most as u32 + 1)));
+        }
+        if random.chance(habits.changes) && !script.session.network.elements.is_empty() {
+            change(random, script);
         }
     }
-    ask(random, out, standing.len());
+    ask(random, script, habits);
+}
+
+/// Changes words of the journal, most often one bit, and asks again.
+fn hurt(random: &mut Random, script: &mut Script, habits: &Habits) {
+    for _ in 0..random.between(1, 3) {
+        let journal = script.session.journal();
+        let used = (journal[0] & 0x0FFF_FFFF).min(journal.len() as u32);
+        let at = if random.chance(80) { random.below(used) } else { random.below(journal.len() as u32).min(used + 3) };
+        let word = journal[at as usize];
+        let poked = match random.below(6) {
+            0 => random.bits() as u32,
+            1 => word | 31 << 11,
+            2 => word.wrapping_add(random.pick(&[1, u32::MAX])),
+            3 => random.pick(&[0xFFF0_0000, 0x8000_0000, 0, 0x3FF0_0000, 0xBFF0_0000]),
+            _ => word ^ 1 << random.below(32),
+        };
+        script.say(&format!("poke {at} {poked:08X}"));
+    }
+    let next = fix(random, habits, script);
+    ask(random, script, habits);
+    script.say(&fix_text(&next));
+    script.say(random.pick(&["strike 0 words", "strike 1", "open close", "words"]));
+    ask(random, script, habits);
 }
 
 pub fn drive(random: &mut Random, out: &mut String, network: &Network) {
+    let mut script = Script { out, session: Session::new(Document::new(&Network::default())) };
+    script.say(&networks::text(network));
     let Settings { beta, scale } = settings(random);
-    let words = if random.chance(2) { random.between(1, 200) } else { random.pick(&[20_000, 65_536, 262_144]) };
-    let without_words = if random.chance(1) { "journal 0\nfeed 0 0\nstrike 0\nclose\nsegments\n" } else { "" };
-    writeln!(out, "settings {} {}\n{without_words}journal {words}", float(beta), float(scale)).unwrap();
+    script.say(&format!("settings {} {}", float(beta), float(scale)));
+    if random.chance(1) {
+        script.say("journal 0\nfeed 0 0\nstrike 0\nclose\nsegments\nrow 0\nsteps 0\nopen\nwords");
+    }
+    let words = if random.chance(2) { random.between(1, 200) } else { random.pick(&[10_000, 20_000, 65_536]) };
+    script.say(&format!("journal {words}"));
     let habits = habits(random);
-    let mut document = Document::new(network);
-    let mut standing = Vec::new();
-    let legs = if random.chance(10) { 2 } else { 1 };
-    for _ in 0..legs {
-        leg(random, out, &habits, &mut document, &mut standing, words as usize);
+    leg(random, &mut script, &habits);
+    if random.chance(10) {
+        leg(random, &mut script, &habits);
+    }
+    if random.chance(5) {
+        hurt(random, &mut script, &habits);
     }
 }
 
@@ -240,9 +340,8 @@ pub fn routes(random: &mut Random, out: &mut String) -> u32 {
     if random.chance(1) {
         networks::spoil(random, &mut network);
     }
-    networks::write(out, &network);
     let elements = network.elements.len() as u32;
-    out.push_str("routes\n");
+    writeln!(out, "{}\nroutes", networks::text(&network)).unwrap();
     questions(random, out, elements, elements);
     4 * elements * elements
 }
@@ -251,6 +350,6 @@ pub fn routes(random: &mut Random, out: &mut String) -> u32 {
 pub fn large(random: &mut Random, out: &mut String) {
     let elements = if random.chance(5) { random.between(1025, 1100) } else { random.between(100, 1024) };
     let network = networks::sized(random, elements);
-    networks::write(out, &network);
+    writeln!(out, "{}", networks::text(&network)).unwrap();
     questions(random, out, elements, 5);
 }

@@ -119,6 +119,11 @@ impl<'a> Words<'a> {
         self.at
     }
 
+    /// How many words were read.
+    pub fn read(&self) -> usize {
+        self.count
+    }
+
     /// The next word, behind spaces, line ends and comments.
     fn next(&mut self) -> Option<&'a str> {
         self.count += 1;

@@ -3,6 +3,7 @@
 pub mod checks;
 pub mod document;
 pub mod drives;
+pub mod journal;
 pub mod language;
 pub mod networks;
 pub mod original;

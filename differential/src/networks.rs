@@ -142,14 +142,15 @@ pub fn float(value: f64) -> String {
     }
 }
 
-pub fn write(out: &mut String, network: &Network) {
-    writeln!(out, "network {} {}", network.elements.len(), network.relations.len()).unwrap();
+pub fn text(network: &Network) -> String {
+    let mut out = format!("network {} {}", network.elements.len(), network.relations.len());
     for e in &network.elements {
         let [a, b, c, d] = e.headings.map(float);
-        writeln!(out, "{} {a} {b} {c} {d} {}", float(e.length), e.flag).unwrap();
+        write!(out, "\n{} {a} {b} {c} {d} {}", float(e.length), e.flag).unwrap();
     }
     for r in &network.relations {
         let Relation { from, to, from_side, to_side, forward, backward } = r;
-        writeln!(out, "{from} {to} {from_side} {to_side} {forward} {backward}").unwrap();
+        write!(out, "\n{from} {to} {from_side} {to_side} {forward} {backward}").unwrap();
     }
+    out
 }

@@ -1,8 +1,9 @@
 //! Drives the original: hands it a network and fixes, and takes its answers.
 
-use crate::language::{Element, Fix, Network, Relation, Segment, Settings, Side};
+use crate::journal::{Cell, Row};
+use crate::language::{Candidate, Element, Fix, Network, Relation, Segment, Settings, Side};
 use crate::routes::Route;
-use crate::session::{Cell, Core, Decision, Decoded, Step};
+use crate::session::{Core, Decision, Path, Step, Unasked};
 use geo::{LineString, Point};
 use original::models::{AssociatedNetElement, NetRelation, Netelement};
 use original::path::candidate::CandidateNetElement;
@@ -12,7 +13,7 @@ use original::path::PathConfig;
 use petgraph::graph::{DiGraph, NodeIndex};
 use std::collections::HashMap;
 
-/// The original's graph of a network, and its cache of route costs.
+/// The original's graph of a network, its cache of route costs, and the last decoding.
 #[derive(Default)]
 pub struct Original {
     netelements: Vec<Netelement>,
@@ -20,6 +21,15 @@ pub struct Original {
     graph: DiGraph<NetelementSide, f64>,
     nodes: HashMap<NetelementSide, NodeIndex>,
     cache: ShortestPathCache,
+    last: Option<(Vec<u64>, Decoded)>,
+}
+
+/// What the original makes of a list of fixes.
+#[derive(Clone)]
+struct Decoded {
+    rows: Vec<Vec<Cell>>,
+    steps: Vec<Step>,
+    path: Option<Path>,
 }
 
 fn netelement(number: usize, element: &Element) -> Netelement {
@@ -50,7 +60,7 @@ fn number_of(id: &str) -> u32 {
 /// A fix's candidates; `first` is the place of the fix's distances in the table.
 fn candidates_of(fix: &Fix, first: usize) -> Vec<CandidateNetElement> {
     let stride = fix.candidates.len();
-    let candidate = |(number, c): (usize, &crate::language::Candidate)| CandidateNetElement {
+    let candidate = |(number, c): (usize, &Candidate)| CandidateNetElement {
         netelement_id: c.element.to_string(),
         distance_meters: 0.0,
         intrinsic_coordinate: c.intrinsic,
@@ -60,7 +70,7 @@ fn candidates_of(fix: &Fix, first: usize) -> Vec<CandidateNetElement> {
 }
 
 /// All fixes' candidates; their distances are handed over on the way.
-fn position_candidates(fixes: &[Fix]) -> Vec<Vec<CandidateNetElement>> {
+fn position_candidates(fixes: &[&Fix]) -> Vec<Vec<CandidateNetElement>> {
     let mut table = Vec::new();
     let mut positions = Vec::new();
     for fix in fixes {
@@ -110,6 +120,64 @@ fn cells(scores: &[f64], parents: &[Option<usize>]) -> Vec<Cell> {
     scores.iter().zip(parents).map(|(&score, &parent)| Cell { score, parent }).collect()
 }
 
+fn same(one: &[Cell], other: &[Cell]) -> bool {
+    let bits = |cell: &Cell| (cell.score.to_bits(), cell.parent);
+    one.iter().map(bits).eq(other.iter().map(bits))
+}
+
+/// How many predecessor candidates a fix has distances for: from the first finite raw log on, every row with candidates scores.
+fn asked_for(before: &[&Fix], fix: &Fix) -> usize {
+    let scores = before.iter().any(|fix| fix.candidates.iter().any(|c| c.raw_log != f64::NEG_INFINITY));
+    let latest = before.iter().rfind(|fix| !fix.candidates.is_empty());
+    latest.filter(|_| scores && !fix.candidates.is_empty()).map_or(0, |fix| fix.candidates.len())
+}
+
+/// All bits that a decoding hangs on, besides the network's.
+fn key(settings: Settings, fixes: &[&Fix]) -> Vec<u64> {
+    let mut key = vec![settings.beta.to_bits(), settings.scale.to_bits()];
+    for fix in fixes {
+        key.push((fix.candidates.len() << 32 | fix.distances.len()) as u64);
+        for c in &fix.candidates {
+            key.extend([(c.element as u64) << 32 | c.near as u64, c.intrinsic.to_bits(), c.raw_log.to_bits()]);
+        }
+        key.extend(fix.distances.iter().map(|distance| distance.to_bits()));
+    }
+    key
+}
+
+impl Original {
+    fn decode(&mut self, settings: Settings, fixes: &[&Fix]) -> Decoded {
+        let candidates = position_candidates(fixes);
+        let logs: Vec<Vec<f64>> = fixes.iter().map(|fix| fix.candidates.iter().map(|c| c.raw_log).collect()).collect();
+        let config = PathConfig { beta: settings.beta, turn_scale: settings.scale, ..PathConfig::default() };
+        let (nodes, cache) = (&self.nodes, &mut self.cache);
+        let result = viterbi::viterbi_decode(&candidates, &logs, &self.netelements, &self.index, &self.graph, nodes, cache, &config);
+        let result = result.expect("a decoding");
+        let (scores, parents) = original::tables::take();
+        let step = |&(before, its, row, own, score): &(usize, usize, usize, usize, f64)| Step { before, its, row, own, score };
+        let path = |closed: &ViterbiSubsequence| Path { score: closed.log_probability, states: closed.states.clone() };
+        Decoded {
+            rows: scores.iter().zip(&parents).map(|(scores, parents)| cells(scores, parents)).collect(),
+            steps: result.transition_records.iter().map(step).collect(),
+            path: result.subsequences.first().map(path),
+        }
+    }
+
+    /// Decodes the standing fixes, and perhaps one more. Unasked if the standing rows do not come out as they stand.
+    fn decoded(&mut self, settings: Settings, rows: &[Row], more: Option<&Fix>) -> Result<Decoded, Unasked> {
+        let fixes: Vec<&Fix> = rows.iter().map(|row| &row.fix).chain(more).collect();
+        if !(0..fixes.len()).all(|at| fixes[at].predecessors() == asked_for(&fixes[..at], fixes[at])) {
+            return Err(Unasked);
+        }
+        let key = key(settings, &fixes);
+        let last = self.last.take().filter(|(last, _)| *last == key);
+        let decoded = last.map_or_else(|| self.decode(settings, &fixes), |(_, decoded)| decoded);
+        let clean = rows.iter().zip(&decoded.rows).all(|(row, cells)| same(&row.cells, cells));
+        self.last = Some((key, decoded.clone()));
+        clean.then_some(decoded).ok_or(Unasked)
+    }
+}
+
 impl Core for Original {
     fn adopt(&mut self, network: &Network) {
         self.netelements = network.elements.iter().enumerate().map(|(n, e)| netelement(n, e)).collect();
@@ -117,6 +185,7 @@ impl Core for Original {
         let relations: Vec<NetRelation> = network.relations.iter().enumerate().map(|(n, r)| netrelation(n, r)).collect();
         (self.graph, self.nodes) = graph::build_topology_graph(&self.netelements, &relations).expect("an accepted network");
         self.cache.clear();
+        self.last = None;
     }
 
     fn route(&mut self, from: Side, to: Side) -> Option<Route> {
@@ -131,32 +200,27 @@ impl Core for Original {
         viterbi::triple_is_consistent(&a, &b, &c, &self.graph, &self.nodes)
     }
 
-    fn decode(&mut self, settings: Settings, fixes: &[Fix]) -> Decoded {
-        let candidates = position_candidates(fixes);
-        let logs: Vec<Vec<f64>> = fixes.iter().map(|fix| fix.candidates.iter().map(|c| c.raw_log).collect()).collect();
-        let config = PathConfig { beta: settings.beta, turn_scale: settings.scale, ..PathConfig::default() };
-        let (nodes, cache) = (&self.nodes, &mut self.cache);
-        let result = viterbi::viterbi_decode(&candidates, &logs, &self.netelements, &self.index, &self.graph, nodes, cache, &config);
-        let result = result.expect("a decoding");
-        let (scores, parents) = original::tables::take();
-        let step = |&(before, its, row, own, score): &(usize, usize, usize, usize, f64)| Step { before, its, row, own, score };
-        let closed = result.subsequences.first();
-        Decoded {
-            rows: scores.iter().zip(&parents).map(|(scores, parents)| cells(scores, parents)).collect(),
-            steps: result.transition_records.iter().map(step).collect(),
-            path: closed.map_or(Vec::new(), |closed| closed.states.clone()),
-            score: closed.map(|closed| closed.log_probability),
-        }
+    fn row(&mut self, settings: Settings, rows: &[Row], fix: &Fix) -> Result<Vec<Cell>, Unasked> {
+        Ok(self.decoded(settings, rows, Some(fix))?.rows.remove(rows.len()))
     }
 
-    fn segments(&mut self, fixes: &[Fix], decoded: &Decoded) -> Vec<Segment> {
-        let states = decoded.path.clone();
-        let closed = decoded.score.map(|log_probability| ViterbiSubsequence { states, log_probability });
+    fn steps(&mut self, settings: Settings, rows: &[Row], row: usize) -> Result<Vec<Step>, Unasked> {
+        let steps = self.decoded(settings, rows, None)?.steps;
+        Ok(steps.into_iter().filter(|step| step.row == row).collect())
+    }
+
+    fn close(&mut self, settings: Settings, rows: &[Row]) -> Result<Option<Path>, Unasked> {
+        Ok(self.decoded(settings, rows, None)?.path)
+    }
+
+    fn segments(&mut self, settings: Settings, rows: &[Row]) -> Result<Vec<Segment>, Unasked> {
+        let path = self.decoded(settings, rows, None)?.path;
+        let closed = path.map(|path| ViterbiSubsequence { states: path.states, log_probability: path.score });
         let result = ViterbiResult { subsequences: closed.into_iter().collect(), transition_records: Vec::new() };
-        let candidates = position_candidates(fixes);
+        let candidates = position_candidates(&rows.iter().map(|row| &row.fix).collect::<Vec<_>>());
         let (nodes, cache) = (&self.nodes, &mut self.cache);
         let built = viterbi::build_path_from_viterbi(&result, &candidates, &self.netelements, &self.index, &self.graph, nodes, cache);
-        built.expect("segments").iter().map(segment_of).collect()
+        Ok(built.expect("segments").iter().map(segment_of).collect())
     }
 
     fn collapse(&mut self, list: &[Segment]) -> (Vec<Segment>, Vec<Decision>) {

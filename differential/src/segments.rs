@@ -1,14 +1,16 @@
 //! Document 01's segments: building them from a path, and collapsing.
 
-use crate::language::{Fix, Segment};
+use crate::document::close;
+use crate::journal::Row;
+use crate::language::Segment;
 use crate::routes::Routes;
 use crate::session::Decision;
 
-/// Consecutive states of one element, with the least and greatest intrinsic.
-fn groups(fixes: &[Fix], path: &[(usize, usize)]) -> Vec<Segment> {
+/// Consecutive states of the closed path on one element, with the least and greatest intrinsic.
+fn groups(rows: &[Row]) -> Vec<Segment> {
     let mut groups: Vec<Segment> = Vec::new();
-    for &(row, candidate) in path {
-        let candidate = fixes[row].candidates[candidate];
+    for (row, candidate) in close(rows).map_or(Vec::new(), |path| path.states) {
+        let candidate = rows[row].fix.candidates[candidate];
         let (intrinsic, row) = (candidate.intrinsic, row as u32);
         match groups.last_mut().filter(|group| group.element == candidate.element) {
             Some(group) => {
@@ -35,9 +37,9 @@ fn bridge(routes: &mut Routes, from: u32, to: u32) -> Vec<u32> {
     elements
 }
 
-pub fn build(routes: &mut Routes, fixes: &[Fix], path: &[(usize, usize)]) -> Vec<Segment> {
+pub fn build(routes: &mut Routes, rows: &[Row]) -> Vec<Segment> {
     let mut segments: Vec<Segment> = Vec::new();
-    for group in groups(fixes, path) {
+    for group in groups(rows) {
         if let Some(Segment { element, last, .. }) = segments.last().copied() {
             let bridges = bridge(routes, element, group.element);
             segments.extend(bridges.iter().map(|&element| Segment { element, start: 0.0, end: 1.0, first: last, last }));
@@ -48,9 +50,8 @@ pub fn build(routes: &mut Routes, fixes: &[Fix], path: &[(usize, usize)]) -> Vec
 }
 
 /// Whether every bridge rests on a route of which there is only one.
-pub fn rests_on_single_routes(routes: &mut Routes, fixes: &[Fix], path: &[(usize, usize)]) -> bool {
-    let groups = groups(fixes, path);
-    groups.windows(2).all(|pair| match routes.cheapest(pair[0].element, pair[1].element) {
+pub fn rests_on_single_routes(routes: &mut Routes, rows: &[Row]) -> bool {
+    groups(rows).windows(2).all(|pair| match routes.cheapest(pair[0].element, pair[1].element) {
         Some((cost, from, to)) if cost >= 1e-9 => routes.is_single(from, to),
         _ => true,
     })

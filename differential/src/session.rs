@@ -1,15 +1,11 @@
-//! Reads the commands of a case text and writes the answers. Checks are document 01's; what is computed comes from a `Core`.
+//! Performs the commands of a case text and writes the answers. Journal and checks are document 01's; what is computed comes from a `Core`.
 
 use crate::checks;
+use crate::journal::{read, tag, used, Cell, Row};
 use crate::language::{bits, Command, Fix, Network, Segment, Settings, Side, Stop, Words};
 use crate::routes::Route;
+use std::collections::HashMap;
 use std::fmt::Write;
-
-#[derive(Debug, Clone, Copy)]
-pub struct Cell {
-    pub score: f64,
-    pub parent: Option<usize>,
-}
 
 /// A possible step: predecessor row, its candidate, row, own candidate, score.
 #[derive(Debug, Clone, Copy)]
@@ -21,12 +17,11 @@ pub struct Step {
     pub score: f64,
 }
 
-#[derive(Debug, Clone, Default)]
-pub struct Decoded {
-    pub rows: Vec<Vec<Cell>>,
-    pub steps: Vec<Step>,
-    pub path: Vec<(usize, usize)>,
-    pub score: Option<f64>,
+/// The score and the (row, candidate) pairs of a closed journal.
+#[derive(Debug, Clone)]
+pub struct Path {
+    pub score: f64,
+    pub states: Vec<(usize, usize)>,
 }
 
 #[derive(Debug, Clone)]
@@ -36,29 +31,51 @@ pub struct Decision {
     pub removed: Vec<u32>,
 }
 
+/// It was not asked: the rows are not those that the fixes give now.
+pub struct Unasked;
+
 /// What computes the answers of accepted calls.
 pub trait Core {
     fn adopt(&mut self, network: &Network);
     fn route(&mut self, from: Side, to: Side) -> Option<Route>;
     fn triple(&mut self, elements: [u32; 3]) -> bool;
-    fn decode(&mut self, settings: Settings, fixes: &[Fix]) -> Decoded;
-    fn segments(&mut self, fixes: &[Fix], decoded: &Decoded) -> Vec<Segment>;
+    fn row(&mut self, settings: Settings, rows: &[Row], fix: &Fix) -> Result<Vec<Cell>, Unasked>;
+    fn steps(&mut self, settings: Settings, rows: &[Row], row: usize) -> Result<Vec<Step>, Unasked>;
+    fn close(&mut self, settings: Settings, rows: &[Row]) -> Result<Option<Path>, Unasked>;
+    fn segments(&mut self, settings: Settings, rows: &[Row]) -> Result<Vec<Segment>, Unasked>;
     fn collapse(&mut self, segments: &[Segment]) -> (Vec<Segment>, Vec<Decision>);
+}
+
+/// Why a call gives no answer of its own.
+enum No {
+    Refused(u32),
+    Unasked,
+}
+
+impl From<Unasked> for No {
+    fn from(_: Unasked) -> Self {
+        No::Unasked
+    }
+}
+
+fn refuse(check: Option<u32>) -> Result<(), No> {
+    check.map_or(Ok(()), |number| Err(No::Refused(number)))
+}
+
+fn refuse_if(refused: bool, number: u32) -> Result<(), No> {
+    refuse(refused.then_some(number))
 }
 
 pub struct Session<C: Core> {
     pub core: C,
     pub network: Network,
-    pub fixes: Vec<Fix>,
-    network_fault: Option<u32>,
     settings: Settings,
-    words: usize,
-    /// A word was poked or a slice cut short: no more is asked up to the next journal.
-    hurt: bool,
-    /// The standing rows were worked out on another network or with other settings, which the original cannot be asked.
-    mixed: bool,
-    decoded: Option<Decoded>,
-    /// The list held; none if it is not known.
+    journal: Vec<u32>,
+    /// The slices that the next call gets cut short.
+    shorts: HashMap<String, usize>,
+    /// A row could not be worked out: no more is asked about the journal until it is opened.
+    lost: bool,
+    /// The list held; none if it could not be worked out.
     built: Option<Vec<Segment>>,
     pub out: String,
 }
@@ -68,7 +85,11 @@ pub fn answer<C: Core>(core: C, text: &str) -> String {
     let mut session = Session::new(core);
     let mut words = Words::new(text);
     loop {
-        match words.command() {
+        let command = words.command().and_then(|command| match command {
+            Some(Command::Poke(at, _)) if at as usize >= session.journal.len() => Err(Stop(words.read() - 1)),
+            command => Ok(command),
+        });
+        match command {
             Ok(Some(command)) => session.perform(&command),
             Ok(None) => return session.out,
             Err(Stop(number)) => {
@@ -84,13 +105,10 @@ impl<C: Core> Session<C> {
         Session {
             core,
             network: Network::default(),
-            fixes: Vec::new(),
-            network_fault: None,
             settings: Settings::default(),
-            words: 0,
-            hurt: false,
-            mixed: false,
-            decoded: None,
+            journal: Vec::new(),
+            shorts: HashMap::new(),
+            lost: false,
             built: Some(Vec::new()),
             out: String::new(),
         }
@@ -101,25 +119,17 @@ impl<C: Core> Session<C> {
         self.out.push('\n');
     }
 
-    /// `WORD ok`, or `WORD refused K`.
-    fn verdict(&mut self, word: &str, refused: Option<u32>) {
-        match refused {
-            None => self.line(format_args!("{word} ok")),
-            Some(number) => self.line(format_args!("{word} refused {number}")),
-        }
-    }
-
     pub fn perform(&mut self, command: &Command) {
-        match command {
+        let done = match command {
             Command::Network(network) => self.set_network(network),
             Command::Settings(settings) => self.set_settings(*settings),
-            Command::Journal(words) => self.journal(*words as usize),
-            Command::Poke(..) | Command::Short(..) => self.hurt = true,
-            _ if self.is_unasked(command) => self.unasked(command),
+            Command::Poke(at, word) => self.poke(*at as usize, *word),
+            Command::Short(slice, count) => self.short(slice, *count as usize),
+            Command::Journal(words) => self.new_journal(*words as usize),
             Command::Open => self.open(),
             Command::Feed(fix) => self.feed(fix),
             Command::Strike(count) => self.strike(*count as usize),
-            Command::Words => self.list_words(),
+            Command::Words => self.words(),
             Command::Close => self.close(),
             Command::Row(row) => self.row(*row as usize),
             Command::Steps(row) => self.steps(*row as usize),
@@ -127,120 +137,183 @@ impl<C: Core> Session<C> {
             Command::Routes => self.routes(),
             Command::Triple(elements) => self.triple(*elements),
             Command::Segments => self.segments(),
-            Command::Collapse(segments) => self.collapse(segments.clone()),
-            Command::CollapseBuilt => self.collapse(self.built.clone().unwrap()),
-            Command::Kept => self.line(format_args!("kept yes")),
+            Command::Collapse(segments) => self.collapse(Some(segments.clone())),
+            Command::CollapseBuilt => self.collapse(self.built.clone()),
+            Command::Kept => self.kept(),
+        };
+        match done {
+            Ok(()) => (),
+            Err(No::Refused(number)) => self.line(format_args!("{} refused {number}", name(command))),
+            Err(No::Unasked) => self.line(format_args!("{} unasked", name(command))),
         }
     }
 
-    /// Performs a command for what it changes alone.
+    /// Performs a command for what it changes alone: network, settings, journal, or that a slice was cut for it.
     pub fn perform_silently(&mut self, command: &Command) {
-        let changes = matches!(name(command), "" | "open" | "feed" | "strike");
-        if changes {
+        if matches!(name(command), "" | "open" | "feed" | "strike") || !self.shorts.is_empty() {
             self.perform(command);
             self.out.clear();
         }
     }
 
-    fn is_unasked(&self, command: &Command) -> bool {
-        let of_rows = matches!(command, Command::Words | Command::Close | Command::Row(_) | Command::Steps(_) | Command::Segments);
-        let of_list = matches!(command, Command::CollapseBuilt);
-        self.hurt || self.mixed && of_rows || self.built.is_none() && of_list
-    }
-
-    fn unasked(&mut self, command: &Command) {
-        self.line(format_args!("{} unasked", name(command)));
-        if matches!(command, Command::Segments | Command::Collapse(_) | Command::CollapseBuilt) {
-            self.built = None;
-        }
-    }
-
-    fn set_network(&mut self, network: &Network) {
+    fn set_network(&mut self, network: &Network) -> Result<(), No> {
         self.network = network.clone();
-        self.network_fault = checks::network(network);
-        if self.network_fault.is_none() {
+        if checks::network(network).is_none() {
             self.core.adopt(network);
         }
-        self.mixed |= !self.fixes.is_empty();
-        self.decoded = None;
+        Ok(())
     }
 
-    fn set_settings(&mut self, settings: Settings) {
+    fn set_settings(&mut self, settings: Settings) -> Result<(), No> {
         self.settings = settings;
-        self.mixed |= !self.fixes.is_empty();
-        self.decoded = None;
+        Ok(())
     }
 
-    fn journal(&mut self, words: usize) {
-        self.words = words;
-        self.hurt = false;
-        self.open();
-    }
-
-    fn open(&mut self) {
-        self.fixes.clear();
-        self.mixed = false;
-        self.decoded = None;
-        self.verdict("open", (self.words == 0).then_some(12));
-    }
-
-    /// Check 7: a journal that was opened stays well formed; without words it is not.
-    fn journal_fault(&self) -> Option<u32> {
-        (self.words == 0).then_some(7)
-    }
-
-    fn feed(&mut self, fix: &Fix) {
-        let elements = self.network.elements.len();
-        let early = self.network_fault.or(checks::settings(self.settings)).or(self.journal_fault());
-        let refused = early.or_else(|| checks::fix(fix, &self.fixes, elements, self.words));
-        if refused.is_none() {
-            self.fixes.push(fix.clone());
-            self.decoded = None;
+    fn poke(&mut self, at: usize, word: u32) -> Result<(), No> {
+        if let Some(place) = self.journal.get_mut(at) {
+            *place = word;
         }
-        self.verdict("feed", refused);
+        Ok(())
     }
 
-    fn strike(&mut self, count: usize) {
-        let refused = self.journal_fault().or((count > self.fixes.len()).then_some(13));
-        if refused.is_none() {
-            self.fixes.truncate(self.fixes.len() - count);
-            self.decoded = None;
-        }
-        self.verdict("strike", refused);
+    fn short(&mut self, slice: &str, count: usize) -> Result<(), No> {
+        self.shorts.insert(slice.to_string(), count);
+        Ok(())
     }
 
-    /// The rows that the standing fixes make.
-    pub fn decoded(&mut self) -> Decoded {
-        if self.decoded.is_none() && self.fixes.is_empty() {
-            self.decoded = Some(Decoded::default());
-        }
-        if self.decoded.is_none() {
-            self.decoded = Some(self.core.decode(self.settings, &self.fixes));
-        }
-        self.decoded.clone().unwrap()
+    /// How many entries of a slice the call gets.
+    fn entries(&mut self, slice: &str, count: usize) -> usize {
+        self.shorts.remove(slice).map_or(count, |short| short.min(count))
     }
 
-    fn close(&mut self) {
-        if let Some(number) = self.journal_fault() {
-            return self.line(format_args!("close refused {number}"));
-        }
-        let decoded = self.decoded();
-        let Some(score) = decoded.score else {
-            return self.line(format_args!("close none"));
+    /// The one count of several slices that have each `per` entries for one of `count`; none if they differ.
+    fn common(&mut self, slices: &[(&str, usize)], count: usize) -> Option<usize> {
+        let counts: Vec<usize> = slices.iter().map(|(slice, per)| self.entries(slice, per * count)).collect();
+        let common = counts[0] / slices[0].1;
+        counts.iter().zip(slices).all(|(&entries, (_, per))| entries == per * common).then_some(common)
+    }
+
+    /// The network that the call gets, through checks 1 to 5.
+    fn take_network(&mut self) -> Result<Network, No> {
+        let relation_fields = [("from", 1), ("to", 1), ("from_side", 1), ("to_side", 1), ("forward", 1), ("backward", 1)];
+        let elements = self.common(&[("lengths", 1), ("headings", 4), ("flags", 1)], self.network.elements.len());
+        let relations = self.common(&relation_fields, self.network.relations.len());
+        let (Some(elements), Some(relations)) = (elements, relations) else {
+            return Err(No::Refused(1));
         };
-        self.line(format_args!("close {} {}", bits(score), decoded.path.len()));
-        for (row, candidate) in decoded.path {
+        let mut network = self.network.clone();
+        network.elements.truncate(elements);
+        network.relations.truncate(relations);
+        refuse(checks::network(&network))?;
+        Ok(network)
+    }
+
+    /// Has the core work on the network that a call got; the whole one is adopted again behind it.
+    fn on<T>(&mut self, network: &Network, call: impl FnOnce(&mut Self) -> T) -> T {
+        let whole = self.network.clone();
+        let is_cut = network.elements.len() != whole.elements.len() || network.relations.len() != whole.relations.len();
+        if !is_cut {
+            return call(self);
+        }
+        self.core.adopt(network);
+        let result = call(self);
+        if checks::network(&whole).is_none() {
+            self.core.adopt(&whole);
+        }
+        result
+    }
+
+    /// The standing rows, by check 7.
+    fn rows(&self) -> Result<Vec<Row>, No> {
+        if self.lost {
+            return Err(No::Unasked);
+        }
+        read(&self.journal).ok_or(No::Refused(7))
+    }
+
+    fn new_journal(&mut self, words: usize) -> Result<(), No> {
+        self.journal = vec![u32::MAX; words];
+        self.open()
+    }
+
+    fn open(&mut self) -> Result<(), No> {
+        refuse_if(self.journal.is_empty(), 12)?;
+        self.journal[0] = tag(5, 1);
+        self.lost = false;
+        self.line(format_args!("open ok"));
+        Ok(())
+    }
+
+    /// The fix that the call gets; none if its fields are of unequal count.
+    fn take_fix(&mut self, fix: &Fix) -> Option<Fix> {
+        let distances = self.entries("distances", fix.distances.len());
+        let fields = [("elements", 1), ("intrinsics", 1), ("near", 1), ("raw_logs", 1)];
+        let count = self.common(&fields, fix.candidates.len())?;
+        Some(Fix { candidates: fix.candidates[..count].to_vec(), distances: fix.distances[..distances].to_vec() })
+    }
+
+    fn feed(&mut self, fix: &Fix) -> Result<(), No> {
+        let (network, fix) = (self.take_network(), self.take_fix(fix));
+        let network = network?;
+        refuse(checks::settings(self.settings))?;
+        let rows = self.rows()?;
+        let fix = fix.ok_or(No::Refused(8))?;
+        let at = used(&self.journal).unwrap();
+        refuse(checks::fix(&fix, &rows, network.elements.len(), self.journal.len() - at))?;
+        let settings = self.settings;
+        match self.on(&network, |session| session.core.row(settings, &rows, &fix)) {
+            Ok(cells) => self.store(at, &Row { fix, cells }.words()),
+            Err(Unasked) => self.lost = true,
+        }
+        self.line(format_args!("feed ok"));
+        Ok(())
+    }
+
+    fn store(&mut self, at: usize, record: &[u32]) {
+        self.journal[at..at + record.len()].copy_from_slice(record);
+        self.journal[0] = tag(5, at + record.len());
+    }
+
+    fn strike(&mut self, count: usize) -> Result<(), No> {
+        let rows = self.rows()?;
+        refuse_if(count > rows.len(), 13)?;
+        let kept = rows[..rows.len() - count].iter().map(|row| checks::record_length(&row.fix)).sum::<usize>();
+        self.journal[0] = tag(5, 1 + kept);
+        self.line(format_args!("strike ok"));
+        Ok(())
+    }
+
+    fn words(&mut self) -> Result<(), No> {
+        if self.lost {
+            return Err(No::Unasked);
+        }
+        let words = self.journal[..used(&self.journal).unwrap_or(0)].to_vec();
+        self.line(format_args!("words {}", words.len()));
+        for word in words {
+            self.line(format_args!("{word:08X}"));
+        }
+        Ok(())
+    }
+
+    fn close(&mut self) -> Result<(), No> {
+        let room = self.entries("answer", usize::MAX);
+        let rows = self.rows()?;
+        let Some(path) = self.core.close(self.settings, &rows)? else {
+            self.line(format_args!("close none"));
+            return Ok(());
+        };
+        refuse_if(path.states.len() > room, 15)?;
+        self.line(format_args!("close {} {}", bits(path.score), path.states.len()));
+        for (row, candidate) in path.states {
             self.line(format_args!("at {row} {candidate}"));
         }
+        Ok(())
     }
 
-    fn row(&mut self, row: usize) {
-        let refused = self.journal_fault().or((row >= self.fixes.len()).then_some(13));
-        if let Some(number) = refused {
-            return self.line(format_args!("row refused {number}"));
-        }
-        let cells = self.decoded().rows[row].clone();
-        let fix = self.fixes[row].clone();
+    fn row(&mut self, row: usize) -> Result<(), No> {
+        let (room, distances) = (self.entries("answer", usize::MAX), self.entries("distances", usize::MAX));
+        let Row { fix, cells } = self.rows()?.get(row).cloned().ok_or(No::Refused(13))?;
+        refuse_if(cells.len() > room || fix.distances.len() > distances, 15)?;
         self.line(format_args!("row {} {}", fix.candidates.len(), fix.predecessors()));
         for (c, cell) in fix.candidates.iter().zip(cells) {
             let parent = cell.parent.unwrap_or(31);
@@ -250,45 +323,51 @@ impl<C: Core> Session<C> {
         for distance in fix.distances {
             self.line(format_args!("distance {}", bits(distance)));
         }
+        Ok(())
     }
 
-    fn steps(&mut self, row: usize) {
-        let early = self.network_fault.or(checks::settings(self.settings)).or(self.journal_fault());
-        let standing = early.or_else(|| checks::standing(&self.fixes, self.network.elements.len()));
-        if let Some(number) = standing.or((row >= self.fixes.len()).then_some(13)) {
-            return self.line(format_args!("steps refused {number}"));
-        }
-        let steps: Vec<Step> = self.decoded().steps.into_iter().filter(|step| step.row == row).collect();
+    fn steps(&mut self, row: usize) -> Result<(), No> {
+        let (network, room) = (self.take_network(), self.entries("answer", usize::MAX));
+        let network = network?;
+        refuse(checks::settings(self.settings))?;
+        let rows = self.rows()?;
+        refuse(checks::standing(&rows, network.elements.len()))?;
+        refuse_if(row >= rows.len(), 13)?;
+        let settings = self.settings;
+        let steps = self.on(&network, |session| session.core.steps(settings, &rows, row))?;
+        refuse_if(steps.len() > room, 15)?;
         self.line(format_args!("steps {}", steps.len()));
         for Step { before, its, row, own, score } in steps {
             self.line(format_args!("step {before} {its} {row} {own} {}", bits(score)));
         }
+        Ok(())
     }
 
-    fn route(&mut self, from: Side, to: Side) {
-        if let Some(number) = self.network_fault {
-            return self.line(format_args!("route refused {number}"));
-        }
-        let Some(route) = self.core.route(from, to) else {
-            return self.line(format_args!("route none"));
+    fn route(&mut self, from: Side, to: Side) -> Result<(), No> {
+        let (network, room) = (self.take_network(), self.entries("answer", usize::MAX));
+        let route = self.on(&network?, |session| session.core.route(from, to));
+        let Some(Route { cost, states }) = route else {
+            self.line(format_args!("route none"));
+            return Ok(());
         };
-        self.line(format_args!("route {} {}", bits(route.cost), route.states.len()));
-        let states: Vec<String> = route.states.iter().map(u32::to_string).collect();
-        self.line(format_args!("{}", states.join(" ")));
+        refuse_if(states.len() > room, 15)?;
+        let listed: Vec<String> = states.iter().map(u32::to_string).collect();
+        self.line(format_args!("route {} {}\n{}", bits(cost), states.len(), listed.join(" ")));
+        Ok(())
     }
 
-    fn routes(&mut self) {
+    fn routes(&mut self) -> Result<(), No> {
         for (from, to) in side_pairs(self.network.elements.len()) {
-            self.route(from, to);
+            self.perform(&Command::Route(from, to));
         }
+        Ok(())
     }
 
-    fn triple(&mut self, elements: [u32; 3]) {
-        if let Some(number) = self.network_fault {
-            return self.line(format_args!("triple refused {number}"));
-        }
-        let word = if self.core.triple(elements) { "yes" } else { "no" };
-        self.line(format_args!("triple {word}"));
+    fn triple(&mut self, elements: [u32; 3]) -> Result<(), No> {
+        let network = self.take_network()?;
+        let consistent = self.on(&network, |session| session.core.triple(elements));
+        self.line(format_args!("triple {}", if consistent { "yes" } else { "no" }));
+        Ok(())
     }
 
     fn list_segments(&mut self, segments: &[Segment]) {
@@ -297,22 +376,34 @@ impl<C: Core> Session<C> {
         }
     }
 
-    fn segments(&mut self) {
-        let early = self.network_fault.or(self.journal_fault());
-        if let Some(number) = early.or_else(|| checks::standing(&self.fixes, self.network.elements.len())) {
-            return self.line(format_args!("segments refused {number}"));
+    fn build(&mut self) -> Result<Vec<Segment>, No> {
+        let (network, room) = (self.take_network(), self.entries("answer", usize::MAX));
+        let network = network?;
+        let rows = self.rows()?;
+        refuse(checks::standing(&rows, network.elements.len()))?;
+        let settings = self.settings;
+        let segments = self.on(&network, |session| session.core.segments(settings, &rows))?;
+        refuse_if(segments.len() > room, 15)?;
+        Ok(segments)
+    }
+
+    fn segments(&mut self) -> Result<(), No> {
+        let built = self.build();
+        if matches!(built, Err(No::Unasked)) {
+            self.built = None;
         }
-        let decoded = self.decoded();
-        let segments = self.core.segments(&self.fixes, &decoded);
+        let segments = built?;
         self.line(format_args!("segments {}", segments.len()));
         self.list_segments(&segments);
         self.built = Some(segments);
+        Ok(())
     }
 
-    fn collapse(&mut self, segments: Vec<Segment>) {
-        if let Some(number) = checks::segments(&segments) {
-            return self.line(format_args!("collapse refused {number}"));
-        }
+    fn collapse(&mut self, segments: Option<Vec<Segment>>) -> Result<(), No> {
+        let room = self.entries("decisions", usize::MAX);
+        let segments = segments.ok_or(No::Unasked)?;
+        refuse(checks::segments(&segments))?;
+        refuse_if(segments.len() > room, 15)?;
         let (kept, decisions) = self.core.collapse(&segments);
         self.line(format_args!("collapse {} {}", kept.len(), decisions.len()));
         self.list_segments(&kept);
@@ -321,37 +412,23 @@ impl<C: Core> Session<C> {
             self.line(format_args!("decision {element} {span} {}{names}", removed.len()));
         }
         self.built = Some(kept);
+        Ok(())
     }
 
-    fn list_words(&mut self) {
-        let rows = self.decoded().rows;
-        let mut words = vec![0];
-        for (fix, cells) in self.fixes.iter().zip(rows) {
-            words.extend(record(fix, &cells));
-        }
-        words[0] = 5 << 28 | words.len() as u32;
-        if self.words == 0 {
-            words.clear();
-        }
-        self.line(format_args!("words {}", words.len()));
-        for word in words {
-            self.line(format_args!("{word:08X}"));
-        }
+    /// What every call promises.
+    fn kept(&mut self) -> Result<(), No> {
+        self.line(format_args!("kept yes"));
+        Ok(())
     }
-}
 
-/// A row's record as document 01 lays it out.
-fn record(fix: &Fix, cells: &[Cell]) -> Vec<u32> {
-    let halves = |value: f64| [(value.to_bits() >> 32) as u32, value.to_bits() as u32];
-    let mut words = vec![1 << 28 | (fix.predecessors() as u32) << 5 | fix.candidates.len() as u32];
-    for (candidate, cell) in fix.candidates.iter().zip(cells) {
-        words.push(2 << 28 | (cell.parent.unwrap_or(31) as u32) << 11 | candidate.near << 10 | candidate.element);
-        words.extend([candidate.intrinsic, candidate.raw_log, cell.score].into_iter().flat_map(halves));
+    /// The standing rows, if they are known.
+    pub fn standing(&self) -> Vec<Row> {
+        self.rows().unwrap_or_default()
     }
-    words.push(3 << 28 | fix.distances.len() as u32);
-    words.extend(fix.distances.iter().copied().flat_map(halves));
-    words.push(4 << 28 | checks::record_length(fix) as u32);
-    words
+
+    pub fn journal(&self) -> &[u32] {
+        &self.journal
+    }
 }
 
 /// Every known side to every known side, in order of element and side.

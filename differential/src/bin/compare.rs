@@ -8,7 +8,7 @@ use differential::document::Document;
 use differential::language::{Command, Network, Side, Words};
 use differential::routes::Route;
 use differential::segments::rests_on_single_routes;
-use differential::session::{side_pairs, Session};
+use differential::session::{name, side_pairs, Session};
 use std::collections::BTreeMap;
 use std::str::Lines;
 
@@ -51,7 +51,7 @@ fn route_of(block: &[&str]) -> Option<Route> {
     Some(Route { cost: f64::from_bits(cost), states })
 }
 
-/// What the standing fixes are, what was counted, and whether the lists held differ by other walks of the same cost.
+/// Where the cases lead by document 01, both answers, and whether the lists held differ, by licence or by being unasked.
 struct Comparison<'a> {
     session: Session<Document>,
     one: Answers<'a>,
@@ -97,11 +97,15 @@ impl Comparison<'_> {
     }
 
     /// Any other answer, alike as text unless `licence` says that it may differ.
-    fn plain(&mut self, case: &str, command: &Command, licence: impl FnOnce(&mut Self) -> bool) -> bool {
+    fn plain(&mut self, case: &str, command: &Command, licence: impl FnOnce(&mut Self) -> bool) {
         let (one, other) = (self.one.block(), self.other.block());
-        let unasked = [&one, &other].iter().any(|block| block.first().is_some_and(|line| line.ends_with(" unasked")));
+        let says = |block: &[&str], word: &str| block.first().is_some_and(|line| line.contains(word));
         let same = one == other;
-        if unasked {
+        let answers_list = matches!(name(command), "segments" | "collapse");
+        if answers_list && !(same && says(&one, " refused ")) {
+            self.lists_differ = !same;
+        }
+        if says(&one, " unasked") || says(&other, " unasked") {
             self.count("unasked");
         } else if same {
             self.count(what(&one, plural(command)));
@@ -110,7 +114,6 @@ impl Comparison<'_> {
         } else {
             self.differs(case, &one, &other);
         }
-        same
     }
 
     fn perform(&mut self, case: &str, command: &Command) {
@@ -122,22 +125,20 @@ impl Comparison<'_> {
                     self.route(case, from, to);
                 }
             }
-            Command::Segments => self.lists_differ = !self.plain(case, command, Self::on_several_walks),
-            Command::Collapse(_) => self.lists_differ = !self.plain(case, command, |_| false),
+            Command::Segments => self.plain(case, command, Self::on_several_walks),
             Command::CollapseBuilt => {
-                self.plain(case, command, |comparison| comparison.lists_differ);
+                let lists_differ = self.lists_differ;
+                self.plain(case, command, |_| lists_differ);
             }
-            _ => {
-                self.plain(case, command, |_| false);
-            }
+            _ => self.plain(case, command, |_| false),
         }
         self.session.perform_silently(command);
     }
 
     /// Whether a bridge of the standing path rests on one of several least walks.
     fn on_several_walks(&mut self) -> bool {
-        let path = self.session.decoded().path;
-        !rests_on_single_routes(&mut self.session.core.routes, &self.session.fixes, &path)
+        let rows = self.session.standing();
+        !rests_on_single_routes(&mut self.session.core.routes, &rows)
     }
 }
 

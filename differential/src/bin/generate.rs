@@ -13,7 +13,6 @@ fn main() {
     let mut out = String::new();
     for _ in 0..drives {
         let network = networks::network(random);
-        networks::write(&mut out, &network);
         drives::drive(random, &mut out, &network);
     }
     let mut asked = 0;
