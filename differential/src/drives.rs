@@ -2,7 +2,7 @@
 
 use crate::document::Document;
 use crate::journal::{predecessor, Row};
-use crate::language::{Candidate, Fix, Network, Settings, Words};
+use crate::language::{Candidate, Fix, Network, Segment, Settings, Words};
 use crate::networks::{self, float};
 use crate::random::Random;
 use crate::session::Session;
@@ -221,13 +221,24 @@ fn row_count(random: &mut Random) -> u32 {
     }
 }
 
-/// Other settings, or another network of as many elements, under the standing rows.
+/// Other settings, or another network of about as many elements, under the standing rows; some that are refused.
 fn change(random: &mut Random, script: &mut Script) {
-    let Settings { beta, scale } = settings(random);
+    let outside = [-1.0, 0.0009999999999999998, 1_000_000.000_000_000_1, f64::NAN, f64::INFINITY];
+    let Settings { mut beta, mut scale } = settings(random);
+    match random.below(10) {
+        0 => beta = random.pick(&outside),
+        1 => scale = random.pick(&outside),
+        _ => (),
+    }
     let mut text = format!("settings {} {}", float(beta), float(scale));
     if random.chance(40) {
-        let elements = script.session.network.elements.len() as u32 - random.chance(20) as u32;
-        text = networks::text(&networks::sized(random, elements));
+        let fewer = random.chance(20) as u32;
+        let elements = (script.session.network.elements.len() as u32).saturating_sub(fewer);
+        let mut network = networks::sized(random, elements);
+        if random.chance(10) {
+            networks::spoil(random, &mut network);
+        }
+        text = networks::text(&network);
     }
     script.say(&text);
 }
@@ -244,7 +255,7 @@ fn leg(random: &mut Random, script: &mut Script, habits: &Habits) {
             let most = script.rows().len().min(if random.chance(70) { 1 } else { usize::MAX });
             script.say(&format!("strike {}", random.below(most as u32 + 1)));
         }
-        if random.chance(habits.changes) && !script.session.network.elements.is_empty() {
+        if random.chance(habits.changes) {
             change(random, script);
         }
     }
@@ -307,29 +318,49 @@ pub fn questions(random: &mut Random, out: &mut String, elements: u32, count: u3
     for _ in 0..count {
         let [a, b, c] = [(); 3].map(|_| any_element(random, elements));
         writeln!(out, "triple {a} {b} {c}").unwrap();
+        if random.chance(2) {
+            let slice = random.pick(&[OF_ELEMENTS, OF_RELATIONS, OF_ANSWER].concat());
+            writeln!(out, "short {slice} {}", random.below(6)).unwrap();
+        }
         let [s, t] = [(); 2].map(|_| random.pick(&[0, 0, 0, 1, 1, 1, 2]));
         writeln!(out, "route {a} {s} {b} {t}").unwrap();
     }
 }
 
-/// Rows of a segment behind the row `at`: a few rows, or a span at the edges that collapsing looks at.
-fn rows(random: &mut Random, at: u32, ordered: bool) -> (u32, u32) {
+/// A segment behind the row `at`: a few rows, or a span at the edges that collapsing looks at.
+fn segment(random: &mut Random, names: u32, at: u32, ordered: bool) -> Segment {
     let first = if ordered { (at + random.below(3)).min(65_534) } else { random.pick(&[0, 3, 10, 65_534, 7]) };
     let span = random.pick(&[0, 0, 1, 2, 8, 9, 10, 11, 30]);
-    (first, (first + span).min(65_534))
+    let [start, end] = [(); 2].map(|_| random.pick(&[0.0, 0.5, 1.0, 0.25, -0.0, 0.1]));
+    Segment { element: random.below(names), start, end, first, last: (first + span).min(65_534) }
+}
+
+/// Puts in a fault that check 14 refuses.
+fn spoil_segment(random: &mut Random, segment: &mut Segment) {
+    let outside = [1.0000000000000002, -5e-324, f64::NAN];
+    match random.below(4) {
+        0 => segment.start = random.pick(&outside),
+        1 => segment.end = random.pick(&outside),
+        2 => segment.last = 65_535,
+        _ => segment.first = segment.last + 1,
+    }
 }
 
 pub fn list(random: &mut Random, out: &mut String) {
     let count = if random.chance(3) { random.between(15, 40) } else { random.below(13) };
     let names = random.between(1, 5);
     let ordered = random.chance(60);
+    let fault = if random.chance(3) { random.below(12) } else { count };
     let mut at = random.pick(&[0, 5, 65_520]);
     writeln!(out, "collapse {count}").unwrap();
-    for _ in 0..count {
-        let (first, last) = rows(random, at, ordered);
-        let [start, end] = [(); 2].map(|_| float(random.pick(&[0.0, 0.5, 1.0, 0.25, -0.0, 0.1])));
-        writeln!(out, "{} {start} {end} {first} {last}", random.below(names)).unwrap();
-        at = last;
+    for number in 0..count {
+        let mut segment = segment(random, names, at, ordered);
+        at = segment.last;
+        if number == fault {
+            spoil_segment(random, &mut segment);
+        }
+        let Segment { element, start, end, first, last } = segment;
+        writeln!(out, "{element} {} {} {first} {last}", float(start), float(end)).unwrap();
     }
     out.push_str("collapse built\n");
 }
