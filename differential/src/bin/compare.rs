@@ -185,7 +185,7 @@ fn main() {
     let mut first = 0;
     let mut place = 0;
     while let Ok(Some(command)) = words.command() {
-        first = if matches!(command, Command::Network(_)) { place } else { first };
+        first = if matches!(command, Command::Network(_) | Command::Collapse(_)) { place } else { first };
         comparison.perform(cases[first..words.place()].trim(), &command);
         place = words.place();
     }
