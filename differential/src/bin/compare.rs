@@ -1,0 +1,198 @@
+//! compare CASES ONE OTHER [strict]: compares two answers to a case text, and counts.
+//!
+//! Everything is compared as text, which is in bits. Only where more than one walk has the least cost may two routes differ, if both are
+//! walks of that cost; and then the segments whose bridges rest on such routes, and what comes of collapsing them. `strict` allows
+//! neither. An answer that says `unasked` is passed over.
+
+use differential::document::Document;
+use differential::language::{Command, Network, Side, Words};
+use differential::routes::Route;
+use differential::segments::rests_on_single_routes;
+use differential::session::{name, side_pairs, Session};
+use std::collections::BTreeMap;
+use std::str::Lines;
+
+/// One program's answers.
+struct Answers<'a> {
+    lines: Lines<'a>,
+}
+
+impl<'a> Answers<'a> {
+    fn new(text: &'a str) -> Self {
+        Answers { lines: text.lines() }
+    }
+
+    fn take(&mut self, count: usize) -> Vec<&'a str> {
+        self.lines.by_ref().take(count).collect()
+    }
+
+    /// The next answer: its first line tells how many follow.
+    fn block(&mut self) -> Vec<&'a str> {
+        let mut block = self.take(1);
+        let words: Vec<&str> = block.first().map_or(Vec::new(), |line| line.split(' ').collect());
+        let number = |at: usize| words.get(at).and_then(|word| word.parse::<usize>().ok()).unwrap_or(0);
+        let follow = match words.first() {
+            _ if words.len() < 2 || matches!(words[1], "refused" | "none" | "unasked") => 0,
+            Some(&"route") => 1,
+            Some(&"close") => number(2),
+            Some(&"row") => number(1) + number(1) * number(2),
+            Some(&"collapse") => number(1) + number(2),
+            Some(&("steps" | "segments" | "words")) => number(1),
+            _ => 0,
+        };
+        block.extend(self.take(follow));
+        block
+    }
+}
+
+fn route_of(block: &[&str]) -> Option<Route> {
+    let cost = u64::from_str_radix(block.first()?.split(' ').nth(1)?, 16).ok()?;
+    let states = block.get(1)?.split(' ').map(|word| word.parse().ok()).collect::<Option<_>>()?;
+    Some(Route { cost: f64::from_bits(cost), states })
+}
+
+/// Where the cases lead by document 01, both answers, and whether the lists held differ, by licence or by being unasked.
+struct Comparison<'a> {
+    session: Session<Document>,
+    one: Answers<'a>,
+    other: Answers<'a>,
+    strict: bool,
+    lists_differ: bool,
+    counts: BTreeMap<String, usize>,
+    shown: usize,
+}
+
+impl Comparison<'_> {
+    fn count(&mut self, what: &str) {
+        *self.counts.entry(what.to_string()).or_default() += 1;
+    }
+
+    fn differs(&mut self, case: &str, one: &[&str], other: &[&str]) {
+        self.count("DIFFERENT");
+        self.shown += 1;
+        if self.shown <= 3 {
+            println!("--- case\n{case}\n--- one\n{}\n--- other\n{}", one.join("\n"), other.join("\n"));
+        }
+    }
+
+    /// Whether two different routes are both walks of one cost, of which there are several.
+    fn other_walk(&mut self, from: Side, to: Side, one: &[&str], other: &[&str]) -> bool {
+        let (Some(one), Some(other)) = (route_of(one), route_of(other)) else {
+            return false;
+        };
+        let routes = &mut self.session.core.routes;
+        let legal = routes.is_walk(from, to, &one) && routes.is_walk(from, to, &other);
+        legal && one.cost.to_bits() == other.cost.to_bits() && !routes.is_single(from, to)
+    }
+
+    fn route(&mut self, case: &str, from: Side, to: Side) {
+        let (one, other) = (self.one.block(), self.other.block());
+        if one == other {
+            self.count(what(&one, "routes"));
+        } else if !self.strict && self.other_walk(from, to, &one, &other) {
+            self.count("routes: another walk of the same cost");
+        } else {
+            self.differs(case, &one, &other);
+        }
+    }
+
+    /// Any other answer, alike as text unless `licence` says that it may differ.
+    fn plain(&mut self, case: &str, command: &Command, licence: impl FnOnce(&mut Self) -> bool) {
+        let (one, other) = (self.one.block(), self.other.block());
+        let says = |block: &[&str], word: &str| block.first().is_some_and(|line| line.contains(word));
+        let same = one == other;
+        let answers_list = matches!(name(command), "segments" | "collapse");
+        if answers_list && !(same && says(&one, " refused ")) {
+            self.lists_differ = !same;
+        }
+        if says(&one, " unasked") || says(&other, " unasked") {
+            self.count("unasked");
+        } else if same {
+            self.count(what(&one, plural(command)));
+        } else if !self.strict && licence(self) {
+            self.count(&format!("{}: on another walk of the same cost", plural(command)));
+        } else {
+            self.differs(case, &one, &other);
+        }
+    }
+
+    fn perform(&mut self, case: &str, command: &Command) {
+        match command {
+            Command::Network(_) | Command::Settings(_) | Command::Poke(..) | Command::Short(..) => (),
+            Command::Route(from, to) => self.route(case, *from, *to),
+            Command::Routes => {
+                for (from, to) in side_pairs(self.session.network.elements.len()) {
+                    self.route(case, from, to);
+                }
+            }
+            Command::Segments => self.plain(case, command, Self::on_several_walks),
+            Command::CollapseBuilt => {
+                let lists_differ = self.lists_differ;
+                self.plain(case, command, |_| lists_differ);
+            }
+            _ => self.plain(case, command, |_| false),
+        }
+        self.session.perform_silently(command);
+    }
+
+    /// Whether a bridge of the standing path rests on one of several least walks.
+    fn on_several_walks(&mut self) -> bool {
+        let rows = self.session.standing();
+        !rests_on_single_routes(&mut self.session.core.routes, &rows)
+    }
+}
+
+/// Refused calls are counted apart.
+fn what<'a>(block: &[&str], kind: &'a str) -> &'a str {
+    if block.first().is_some_and(|line| line.contains(" refused ")) {
+        "refused"
+    } else {
+        kind
+    }
+}
+
+fn plural(command: &Command) -> &'static str {
+    match command {
+        Command::Journal(_) => "drives",
+        Command::Open => "openings",
+        Command::Feed(_) => "fixes",
+        Command::Strike(_) => "strikes",
+        Command::Words => "journals in words",
+        Command::Close => "paths and scores",
+        Command::Row(_) => "rows",
+        Command::Steps(_) => "rows' steps",
+        Command::Triple(_) => "triples",
+        Command::Segments => "lists of segments",
+        Command::Collapse(_) | Command::CollapseBuilt => "collapsed lists",
+        _ => "others",
+    }
+}
+
+fn main() {
+    let arguments: Vec<String> = std::env::args().skip(1).collect();
+    let read = |at: usize| std::fs::read_to_string(&arguments[at]).expect("a file to compare");
+    let (cases, one, other) = (read(0), read(1), read(2));
+    let mut comparison = Comparison {
+        session: Session::new(Document::new(&Network::default())),
+        one: Answers::new(&one),
+        other: Answers::new(&other),
+        strict: arguments.get(3).is_some_and(|word| word == "strict"),
+        lists_differ: false,
+        counts: BTreeMap::new(),
+        shown: 0,
+    };
+    let mut words = Words::new(&cases);
+    let mut first = 0;
+    let mut place = 0;
+    while let Ok(Some(command)) = words.command() {
+        first = if matches!(command, Command::Network(_) | Command::Collapse(_)) { place } else { first };
+        comparison.perform(cases[first..words.place()].trim(), &command);
+        place = words.place();
+    }
+    if comparison.one.block() != comparison.other.block() {
+        comparison.count("DIFFERENT at the end");
+    }
+    for (kind, count) in &comparison.counts {
+        println!("{count} {kind}");
+    }
+}

@@ -1,0 +1,386 @@
+//! Makes drives on a network, questions about routes, and lists to collapse, as case text.
+
+use crate::document::Document;
+use crate::journal::{predecessor, Row};
+use crate::language::{Candidate, Fix, Network, Segment, Settings, Words};
+use crate::networks::{self, float};
+use crate::random::Random;
+use crate::session::Session;
+use std::fmt::Write;
+
+/// The text so far, and where it leads by document 01.
+struct Script<'a> {
+    out: &'a mut String,
+    session: Session<Document>,
+}
+
+impl Script<'_> {
+    /// Writes commands and performs them.
+    fn say(&mut self, text: &str) {
+        self.out.push_str(text);
+        self.out.push('\n');
+        let mut words = Words::new(text);
+        while let Some(command) = words.command().expect("our own words") {
+            self.session.perform_silently(&command);
+        }
+    }
+
+    fn rows(&self) -> Vec<Row> {
+        self.session.standing()
+    }
+}
+
+/// What a drive's fixes are drawn from.
+struct Habits {
+    most_candidates: u32,
+    near: u32,
+    stay: u32,
+    empty: u32,
+    impossible: u32,
+    whole: bool,
+    strikes: u32,
+    faults: u32,
+    shorts: u32,
+    changes: u32,
+}
+
+fn habits(random: &mut Random) -> Habits {
+    Habits {
+        most_candidates: random.pick(&[1, 2, 2, 3, 3, 3, 4]),
+        near: random.pick(&[0, 30, 70, 90, 100]),
+        stay: random.pick(&[0, 40, 70]),
+        empty: random.pick(&[0, 0, 10, 30]),
+        impossible: random.pick(&[0, 0, 20, 60]),
+        whole: random.chance(50),
+        strikes: random.pick(&[0, 0, 10, 30]),
+        faults: random.pick(&[0, 0, 0, 0, 10]),
+        shorts: if random.chance(5) { 10 } else { 0 },
+        changes: if random.chance(3) { 20 } else { 0 },
+    }
+}
+
+fn settings(random: &mut Random) -> Settings {
+    let edges = [0.001, 1_000_000.0, 50.0, 1.0];
+    let drawn = 10f64.powf(random.unit() * 9.0 - 3.0).clamp(0.001, 1_000_000.0);
+    let beta = match random.below(10) {
+        0 => 0.0,
+        1 => -0.0,
+        2..=5 => random.pick(&edges),
+        _ => drawn,
+    };
+    Settings { beta, scale: if random.chance(50) { random.pick(&edges) } else { random.unit() * 100.0 + 0.001 } }
+}
+
+fn raw_log(random: &mut Random, habits: &Habits) -> f64 {
+    let floor = [-23.025850929940457, -23.02585092994046, -23.025850929940453, -745.0, -0.0];
+    match random.below(10) {
+        _ if random.chance(habits.impossible) => f64::NEG_INFINITY,
+        0 => random.pick(&floor),
+        _ if habits.whole => -(random.below(4) as f64),
+        1 => -random.unit() * 745.0,
+        _ => -random.unit() * 5.0,
+    }
+}
+
+fn intrinsic(random: &mut Random, habits: &Habits) -> f64 {
+    match random.below(8) {
+        0 => random.pick(&[0.9999999999999999, 5e-324, 0.1]),
+        1 => random.unit(),
+        _ if habits.whole => random.pick(&[0.0, 0.25, 0.5, 1.0]),
+        _ => random.unit(),
+    }
+}
+
+fn candidate(random: &mut Random, habits: &Habits, elements: u32, before: Option<&Fix>) -> Candidate {
+    let earlier = before.filter(|_| random.chance(habits.stay)).map(|fix| random.pick(&fix.candidates).element);
+    Candidate {
+        element: earlier.unwrap_or_else(|| random.below(elements)),
+        intrinsic: intrinsic(random, habits),
+        near: random.chance(habits.near) as u32,
+        raw_log: raw_log(random, habits),
+    }
+}
+
+/// A distance between two candidates: often the route's length at a side pair, or close to it.
+fn distance(random: &mut Random, document: &mut Document, from: &Candidate, to: &Candidate) -> f64 {
+    let route = document.route_length(from, random.below(2), to, random.below(2)).unwrap_or(0.0);
+    let off = [1e-9, 9.999999999999999e-10, 1.0000000000000002e-9, 5e-10, 0.5, 1.0, 100.0];
+    let value: f64 = match random.below(10) {
+        0..=3 => route,
+        4 => route + random.pick(&off),
+        5 => route - random.pick(&off),
+        6 => random.below(300) as f64,
+        7 => random.pick(&[0.0, -0.0, 5e-324, 20_100_000.0]),
+        _ => random.unit() * 1000.0,
+    };
+    if value >= 0.0 && value <= 20_100_000.0 {
+        value
+    } else {
+        0.0
+    }
+}
+
+fn fix(random: &mut Random, habits: &Habits, script: &mut Script) -> Fix {
+    let rows = script.rows();
+    let elements = script.session.network.elements.len() as u32;
+    let most = if random.below(400) == 0 { 16 } else { habits.most_candidates };
+    let count = if elements == 0 || random.chance(habits.empty) { 0 } else { random.between(1, most) };
+    let before = predecessor(&rows).map(|row| &rows[row].fix);
+    let candidates: Vec<Candidate> = (0..count).map(|_| candidate(random, habits, elements, before)).collect();
+    let mut distances = Vec::new();
+    for from in before.map_or(&[][..], |fix| &fix.candidates) {
+        distances.extend(candidates.iter().map(|to| distance(random, &mut script.session.core, from, to)));
+    }
+    Fix { candidates, distances }
+}
+
+/// Puts in a fault that checks 8 to 10 refuse.
+fn spoil(random: &mut Random, fix: &mut Fix) {
+    let Some(first) = fix.candidates.first_mut() else {
+        return fix.distances.push(1.0);
+    };
+    match random.below(7) {
+        0 => first.element = random.pick(&[12, 1024, u32::MAX]),
+        1 => first.intrinsic = random.pick(&[-0.0, 1.0000000000000002, f64::NAN, -1.0]),
+        2 => first.near = random.pick(&[2, u32::MAX]),
+        3 => first.raw_log = random.pick(&[5e-324, -745.0000000000001, f64::NAN, f64::INFINITY]),
+        4 => fix.distances.push(0.0),
+        5 => fix.candidates = vec![*first; 17],
+        _ if fix.distances.is_empty() => fix.distances.push(2.0),
+        _ => fix.distances[0] = random.pick(&[-5e-324, 20_100_000.000000004, f64::NAN, f64::INFINITY]),
+    }
+}
+
+fn fix_text(fix: &Fix) -> String {
+    let mut out = format!("feed {} {}", fix.candidates.len(), fix.distances.len());
+    for c in &fix.candidates {
+        write!(out, "\n{} {} {} {}", c.element, float(c.intrinsic), c.near, float(c.raw_log)).unwrap();
+    }
+    if !fix.distances.is_empty() {
+        let distances: Vec<String> = fix.distances.iter().copied().map(float).collect();
+        write!(out, "\n{}", distances.join(" ")).unwrap();
+    }
+    out
+}
+
+const OF_ELEMENTS: &[&str] = &["lengths", "headings", "flags"];
+const OF_RELATIONS: &[&str] = &["from", "to", "from_side", "to_side", "forward", "backward"];
+const OF_FIX: &[&str] = &["elements", "intrinsics", "near", "raw_logs"];
+const OF_ANSWER: &[&str] = &["answer"];
+const OF_DISTANCES: &[&str] = &["distances"];
+const OF_DECISIONS: &[&str] = &["decisions"];
+
+/// Cuts one of the slices that the next call takes, or all that belong together.
+fn cut(random: &mut Random, script: &mut Script, taken: &[&[&str]]) {
+    let slices = random.pick(taken);
+    let count = random.below(5);
+    let one = random.pick(slices);
+    let together = random.chance(40);
+    for slice in slices.iter().filter(|slice| together || **slice == one) {
+        let per = if *slice == "headings" { 4 } else { 1 };
+        script.say(&format!("short {slice} {}", per * count));
+    }
+}
+
+/// A call, now and then with a slice cut short.
+fn call(random: &mut Random, script: &mut Script, habits: &Habits, taken: &[&[&str]], text: &str) {
+    if random.chance(habits.shorts) {
+        cut(random, script, taken);
+    }
+    script.say(text);
+    if random.chance(habits.shorts) && !text.starts_with("feed") {
+        script.say("kept");
+    }
+}
+
+/// Everything that can be asked about the standing rows.
+fn ask(random: &mut Random, script: &mut Script, habits: &Habits) {
+    let rows = script.rows().len();
+    call(random, script, habits, &[OF_ANSWER], "close");
+    for row in 0..rows + random.chance(2) as usize {
+        call(random, script, habits, &[OF_ANSWER, OF_DISTANCES], &format!("row {row}"));
+        call(random, script, habits, &[OF_ELEMENTS, OF_RELATIONS, OF_ANSWER], &format!("steps {row}"));
+    }
+    call(random, script, habits, &[OF_ELEMENTS, OF_RELATIONS, OF_ANSWER], "segments");
+    call(random, script, habits, &[OF_DECISIONS], "collapse built");
+    if random.chance(10) {
+        script.say("kept words");
+    }
+    if random.chance(2) {
+        script.say(&format!("strike {}", rows + 1));
+    }
+}
+
+fn row_count(random: &mut Random) -> u32 {
+    match random.below(1000) {
+        0 => random.between(60, 150),
+        1..=19 => random.between(15, 40),
+        20..=299 => random.between(6, 14),
+        300..=309 => 0,
+        _ => random.between(1, 6),
+    }
+}
+
+/// Other settings, or another network of about as many elements, under the standing rows; some that are refused.
+fn change(random: &mut Random, script: &mut Script) {
+    let outside = [-1.0, 0.0009999999999999998, 1_000_000.000_000_000_1, f64::NAN, f64::INFINITY];
+    let Settings { mut beta, mut scale } = settings(random);
+    match random.below(10) {
+        0 => beta = random.pick(&outside),
+        1 => scale = random.pick(&outside),
+        _ => (),
+    }
+    let mut text = format!("settings {} {}", float(beta), float(scale));
+    if random.chance(40) {
+        let fewer = random.chance(20) as u32;
+        let elements = (script.session.network.elements.len() as u32).saturating_sub(fewer);
+        let mut network = networks::sized(random, elements);
+        if random.chance(10) {
+            networks::spoil(random, &mut network);
+        }
+        text = networks::text(&network);
+    }
+    script.say(&text);
+}
+
+/// Feeds fixes and strikes some of them again.
+fn leg(random: &mut Random, script: &mut Script, habits: &Habits) {
+    for _ in 0..row_count(random) {
+        let mut next = fix(random, habits, script);
+        if random.chance(habits.faults) {
+            spoil(random, &mut next);
+        }
+        call(random, script, habits, &[OF_ELEMENTS, OF_RELATIONS, OF_FIX, OF_DISTANCES], &fix_text(&next));
+        if random.chance(habits.strikes) {
+            let most = script.rows().len().min(if random.chance(70) { 1 } else { usize::MAX });
+            script.say(&format!("strike {}", random.below(most as u32 + 1)));
+        }
+        if random.chance(habits.changes) {
+            change(random, script);
+        }
+    }
+    ask(random, script, habits);
+}
+
+/// Changes words of the journal, most often one bit, and asks again.
+fn hurt(random: &mut Random, script: &mut Script, habits: &Habits) {
+    for _ in 0..random.between(1, 3) {
+        let journal = script.session.journal();
+        let used = (journal[0] & 0x0FFF_FFFF).min(journal.len() as u32);
+        let at = if random.chance(80) { random.below(used) } else { random.below(journal.len() as u32).min(used + 3) };
+        let word = journal[at as usize];
+        let poked = match random.below(6) {
+            0 => random.bits() as u32,
+            1 => word | 31 << 11,
+            2 => word.wrapping_add(random.pick(&[1, u32::MAX])),
+            3 => random.pick(&[0xFFF0_0000, 0x8000_0000, 0, 0x3FF0_0000, 0xBFF0_0000]),
+            _ => word ^ 1 << random.below(32),
+        };
+        script.say(&format!("poke {at} {poked:08X}"));
+    }
+    let next = fix(random, habits, script);
+    ask(random, script, habits);
+    script.say(&fix_text(&next));
+    script.say(random.pick(&["strike 0 words", "strike 1", "open close", "words"]));
+    ask(random, script, habits);
+}
+
+pub fn drive(random: &mut Random, out: &mut String, network: &Network) {
+    let mut script = Script { out, session: Session::new(Document::new(&Network::default())) };
+    script.say(&networks::text(network));
+    let Settings { beta, scale } = settings(random);
+    script.say(&format!("settings {} {}", float(beta), float(scale)));
+    if random.chance(1) {
+        script.say("journal 0\nfeed 0 0\nstrike 0\nclose\nsegments\nrow 0\nsteps 0\nopen\nwords");
+    }
+    let words = if random.chance(2) { random.between(1, 200) } else { random.pick(&[10_000, 20_000, 65_536]) };
+    script.say(&format!("journal {words}"));
+    let habits = habits(random);
+    leg(random, &mut script, &habits);
+    if random.chance(10) {
+        leg(random, &mut script, &habits);
+    }
+    if random.chance(5) {
+        hurt(random, &mut script, &habits);
+    }
+}
+
+fn any_element(random: &mut Random, elements: u32) -> u32 {
+    if elements == 0 || random.chance(5) {
+        random.pick(&[elements, elements + 1, 1024, u32::MAX])
+    } else {
+        random.below(elements)
+    }
+}
+
+/// Triples, and routes that may begin or end at unknown sides.
+pub fn questions(random: &mut Random, out: &mut String, elements: u32, count: u32) {
+    for _ in 0..count {
+        let [a, b, c] = [(); 3].map(|_| any_element(random, elements));
+        writeln!(out, "triple {a} {b} {c}").unwrap();
+        if random.chance(2) {
+            let slice = random.pick(&[OF_ELEMENTS, OF_RELATIONS, OF_ANSWER].concat());
+            writeln!(out, "short {slice} {}", random.below(6)).unwrap();
+        }
+        let [s, t] = [(); 2].map(|_| random.pick(&[0, 0, 0, 1, 1, 1, 2]));
+        writeln!(out, "route {a} {s} {b} {t}").unwrap();
+    }
+}
+
+/// A segment behind the row `at`: a few rows, or a span at the edges that collapsing looks at.
+fn segment(random: &mut Random, names: u32, at: u32, ordered: bool) -> Segment {
+    let first = if ordered { (at + random.below(3)).min(65_534) } else { random.pick(&[0, 3, 10, 65_534, 7]) };
+    let span = random.pick(&[0, 0, 1, 2, 8, 9, 10, 11, 30]);
+    let [start, end] = [(); 2].map(|_| random.pick(&[0.0, 0.5, 1.0, 0.25, -0.0, 0.1]));
+    Segment { element: random.below(names), start, end, first, last: (first + span).min(65_534) }
+}
+
+/// Puts in a fault that check 14 refuses.
+fn spoil_segment(random: &mut Random, segment: &mut Segment) {
+    let outside = [1.0000000000000002, -5e-324, f64::NAN];
+    match random.below(4) {
+        0 => segment.start = random.pick(&outside),
+        1 => segment.end = random.pick(&outside),
+        2 => segment.last = 65_535,
+        _ => segment.first = segment.last + 1,
+    }
+}
+
+pub fn list(random: &mut Random, out: &mut String) {
+    let count = if random.chance(3) { random.between(15, 40) } else { random.below(13) };
+    let names = random.between(1, 5);
+    let ordered = random.chance(60);
+    let fault = if random.chance(3) { random.below(12) } else { count };
+    let mut at = random.pick(&[0, 5, 65_520]);
+    writeln!(out, "collapse {count}").unwrap();
+    for number in 0..count {
+        let mut segment = segment(random, names, at, ordered);
+        at = segment.last;
+        if number == fault {
+            spoil_segment(random, &mut segment);
+        }
+        let Segment { element, start, end, first, last } = segment;
+        writeln!(out, "{element} {} {} {first} {last}", float(start), float(end)).unwrap();
+    }
+    out.push_str("collapse built\n");
+}
+
+/// A network with questions, and perhaps a fault; tells how many pairs of sides it asks for.
+pub fn routes(random: &mut Random, out: &mut String) -> u32 {
+    let mut network = networks::network(random);
+    if random.chance(1) {
+        networks::spoil(random, &mut network);
+    }
+    let elements = network.elements.len() as u32;
+    writeln!(out, "{}\nroutes", networks::text(&network)).unwrap();
+    questions(random, out, elements, elements);
+    4 * elements * elements
+}
+
+/// A network of up to 1,024 elements (now and then more) with a few routes.
+pub fn large(random: &mut Random, out: &mut String) {
+    let elements = if random.chance(5) { random.between(1025, 1100) } else { random.between(100, 1024) };
+    let network = networks::sized(random, elements);
+    writeln!(out, "{}", networks::text(&network)).unwrap();
+    questions(random, out, elements, 5);
+}

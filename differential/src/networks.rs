@@ -1,0 +1,156 @@
+//! Makes networks, and writes them as case text.
+
+use crate::language::{Element, Network, Relation};
+use crate::random::Random;
+use std::fmt::Write;
+
+/// What most lengths of a network are drawn from: ties, sums that round, the edges of the range and of 1e-9, sums that absorb.
+#[derive(Clone, Copy)]
+enum Lengths {
+    Few,
+    Hundreds,
+    Tenths,
+    Fractions,
+    Edges,
+    Apart,
+}
+
+const EDGES: [f64; 12] = [
+    0.0,
+    5e-324,
+    f64::MIN_POSITIVE,
+    1e-10,
+    5e-10,
+    9.999999999999999e-10,
+    1e-9,
+    1.0000000000000002e-9,
+    0.1,
+    1.0,
+    1_048_575.999_999_999_9,
+    1_048_576.0,
+];
+
+fn length(random: &mut Random, lengths: Lengths) -> f64 {
+    match lengths {
+        Lengths::Few => random.below(4) as f64,
+        Lengths::Hundreds => random.pick(&[50.0, 100.0, 100.0, 200.0]),
+        Lengths::Tenths => random.below(12) as f64 / 10.0,
+        Lengths::Fractions => random.unit() * 1000.0,
+        Lengths::Edges => random.pick(&EDGES),
+        Lengths::Apart => random.pick(&[1_048_576.0, 1e-11, 3e-11, 1.0]),
+    }
+}
+
+fn heading(random: &mut Random, straight: bool) -> f64 {
+    match random.below(4) {
+        _ if straight => 90.0,
+        0 => random.pick(&[0.0, -0.0, 90.0, 180.0, 270.0]),
+        1 => random.pick(&[359.99999999999994, 180.00000000000003, 179.99999999999997, 5e-324, 1.0]),
+        2 => random.below(360) as f64,
+        _ => random.unit() * 360.0,
+    }
+}
+
+fn element(random: &mut Random, lengths: Lengths, straight: bool) -> Element {
+    let lengths = if random.chance(8) { Lengths::Edges } else { lengths };
+    let headings = [(); 4].map(|_| heading(random, straight));
+    Element { length: length(random, lengths), headings, flag: random.pick(&[1, 1, 1, 1, 1, 0, 7, u32::MAX]) }
+}
+
+fn flag(random: &mut Random) -> u32 {
+    random.pick(&[0, 1, 1, 1, 1, 1, 2, u32::MAX])
+}
+
+/// A relation between two different elements, some of them unknown to the network.
+fn relation(random: &mut Random, elements: u32) -> Relation {
+    let from = if elements == 0 || random.chance(3) { elements + random.below(3) } else { random.below(elements) };
+    let mut to = from;
+    while to == from {
+        to = if elements < 2 || random.chance(3) { random.pick(&[elements, elements + 1, u32::MAX]) } else { random.below(elements) };
+    }
+    let (forward, backward) = (flag(random), flag(random));
+    Relation { from, to, from_side: random.below(2), to_side: random.below(2), forward, backward }
+}
+
+/// The end of an element to the start of the next, both ways or one.
+fn chain(random: &mut Random, elements: u32) -> Vec<Relation> {
+    let link = |from: u32, one_way: bool| Relation { from, to: from + 1, from_side: 1, to_side: 0, forward: 1, backward: !one_way as u32 };
+    (1..elements).map(|to| link(to - 1, random.chance(15))).collect()
+}
+
+fn relations(random: &mut Random, elements: u32) -> Vec<Relation> {
+    let mut relations = if random.chance(50) { chain(random, elements) } else { Vec::new() };
+    let most = if relations.is_empty() { 2 * elements + 2 } else { elements / 2 + 1 };
+    for _ in 0..random.below(most + 1) {
+        relations.push(relation(random, elements));
+    }
+    if !relations.is_empty() && random.chance(15) {
+        relations.push(random.pick(&relations.clone()));
+    }
+    relations
+}
+
+pub fn sized(random: &mut Random, elements: u32) -> Network {
+    let kinds = [Lengths::Few, Lengths::Few, Lengths::Hundreds, Lengths::Tenths, Lengths::Fractions, Lengths::Edges, Lengths::Apart];
+    let lengths = random.pick(&kinds);
+    let straight = random.chance(30);
+    let relations = relations(random, elements);
+    Network { elements: (0..elements).map(|_| element(random, lengths, straight)).collect(), relations }
+}
+
+pub fn network(random: &mut Random) -> Network {
+    let elements = match random.below(100) {
+        0 => 0,
+        1..=39 => random.between(1, 4),
+        40..=84 => random.between(3, 8),
+        _ => random.between(6, 12),
+    };
+    sized(random, elements)
+}
+
+/// Puts in a fault that checks 2 to 5 refuse.
+pub fn spoil(random: &mut Random, network: &mut Network) {
+    let lengths = [-1.0, -0.0, 1_048_576.000_000_000_2, f64::NAN, f64::INFINITY];
+    let headings = [360.0, -5e-324, f64::NAN, f64::INFINITY, -90.0];
+    let (element, relation) = (random.bits() as usize, random.bits() as usize);
+    if let Some(count @ 1..) = Some(network.elements.len()) {
+        match random.below(3) {
+            0 => network.elements[element % count].length = random.pick(&lengths),
+            1 => network.elements[element % count].headings[element % 4] = random.pick(&headings),
+            _ => (),
+        }
+    }
+    if let Some(count @ 1..) = Some(network.relations.len()) {
+        let relation = &mut network.relations[relation % count];
+        match random.below(4) {
+            0 => relation.to_side = random.pick(&[2, u32::MAX]),
+            1 => relation.from_side = 2,
+            2 => relation.to = relation.from,
+            _ => (),
+        }
+    }
+}
+
+/// A float for the case language: a decimal where that is short, else its bits.
+pub fn float(value: f64) -> String {
+    match value {
+        f64::NEG_INFINITY => "-inf".to_string(),
+        _ if value == 0.0 && value.is_sign_negative() => "-0.0".to_string(),
+        _ if value.fract() == 0.0 && value.abs() < 1e9 => format!("{value}"),
+        _ if (value * 4.0).fract() == 0.0 && value.abs() < 1e6 => format!("{value}"),
+        _ => format!("{:016X}", value.to_bits()),
+    }
+}
+
+pub fn text(network: &Network) -> String {
+    let mut out = format!("network {} {}", network.elements.len(), network.relations.len());
+    for e in &network.elements {
+        let [a, b, c, d] = e.headings.map(float);
+        write!(out, "\n{} {a} {b} {c} {d} {}", float(e.length), e.flag).unwrap();
+    }
+    for r in &network.relations {
+        let Relation { from, to, from_side, to_side, forward, backward } = r;
+        write!(out, "\n{from} {to} {from_side} {to_side} {forward} {backward}").unwrap();
+    }
+    out
+}
