@@ -177,8 +177,12 @@ fn cut(random: &mut Random, script: &mut Script, taken: &[&[&str]]) {
     let one = random.pick(slices);
     let together = random.chance(40);
     for slice in slices.iter().filter(|slice| together || **slice == one) {
-        let per = if *slice == "headings" { 4 } else { 1 };
-        script.say(&format!("short {slice} {}", per * count));
+        let entries = match *slice {
+            "headings" => 4 * count,
+            "decisions" => 6 * count + random.below(6),
+            _ => count,
+        };
+        script.say(&format!("short {slice} {entries}"));
     }
 }
 

@@ -400,7 +400,8 @@ impl<C: Core> Session<C> {
     }
 
     fn collapse(&mut self, segments: Option<Vec<Segment>>) -> Result<(), No> {
-        let room = self.entries("decisions", usize::MAX);
+        // six words a decision
+        let room = self.entries("decisions", usize::MAX) / 6;
         let segments = segments.ok_or(No::Unasked)?;
         refuse(checks::segments(&segments))?;
         refuse_if(segments.len() > room, 15)?;
