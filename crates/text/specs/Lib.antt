@@ -1,0 +1,3 @@
+-- What the contracts of `text` and the laws of its `proofs/` speak of.
+pub mod Words
+pub mod Numbers

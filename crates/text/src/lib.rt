@@ -1,0 +1,3 @@
+// The words of the case language: found in a text, read and written.
+pub mod number;
+pub mod word;
