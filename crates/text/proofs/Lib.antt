@@ -1,3 +1,5 @@
 -- Laws of the definitions of `specs/`.
+pub mod Bytes
 pub mod Words
 pub mod Numbers
+pub mod Floats

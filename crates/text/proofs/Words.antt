@@ -11,6 +11,7 @@ use lib.ListN.{length, getD, drop, drop-of-length-le, length-drop}
 use lib.Seq.{drop-cons}
 use borrow.Author.Tests.{eq-eqb, ne-eqb}
 use Rattle.lists.proofs.Loops.{or-right}
+use Rattle.text.proofs.Bytes.{and-false}
 use Rattle.text.specs.Words.{breaks, commented, gap, run, nextWord}
 
 -- past the last byte there is no gap and no word
@@ -39,10 +40,6 @@ run-stop text i h e = rw (drop-cons text i 0 h, e, add-zero)
 pub run-turn : (text : List ℕ) (i : ℕ) → i < length text → breaks (getD text i 0) ≡ false → i + run (drop i text) ≡ i + 1 + run (drop (i + 1) text)
 unfolding run
 run-turn text i h e = rw (add-one, drop-cons text i 0 h, e, add-suc, suc-add)
-
-and-false : (a : Bool) → a && false ≡ false
-and-false true = refl
-and-false false = refl
 
 -- what the tests of a byte come to
 pub breaks-last : (b : ℕ) → (b ≡ 9 → ⊥) → (b ≡ 10 → ⊥) → (b ≡ 13 → ⊥) → (b ≡ 32 → ⊥) → eqb b 35 ≡ breaks b

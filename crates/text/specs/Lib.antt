@@ -1,3 +1,5 @@
 -- What the contracts of `text` and the laws of its `proofs/` speak of.
+pub mod Bytes
 pub mod Words
 pub mod Numbers
+pub mod Floats

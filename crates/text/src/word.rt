@@ -3,6 +3,7 @@ ghost use mathlib.Core.Path.{_≡_};
 ghost use mathlib.Core.Bool.{false, _||_};
 ghost use Prim.Native.Nat.{_+_};
 ghost use lib.ListN.{drop};
+ghost use Rattle.text.specs.Bytes.{same};
 ghost use Rattle.text.specs.Words.{gap, run, nextWord};
 ghost use Rattle.text.specs.Words.{breaks as Words·breaks, commented as Words·commented};
 
@@ -10,6 +11,21 @@ ghost use Rattle.text.specs.Words.{breaks as Words·breaks, commented as
 pub struct Word {
     pub first: usize,
     pub end: usize,
+}
+
+// Whether two words have the same bytes.
+pub fn same_bytes(a: &[u8], b: &[u8]) -> bool
+    ensures { λ r. ⌜ r ≡ same (now (a .entry)) (now (b .entry)) ⌝ }
+{
+    if a.len() != b.len() {
+        return false;
+    }
+    for k in 0..a.len() {
+        if a[k] != b[k] {
+            return false;
+        }
+    }
+    true
 }
 
 fn breaks(b: u8) -> bool
