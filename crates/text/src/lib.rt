@@ -1,4 +1,6 @@
 // The words of the case language: found in a text, read and written.
 pub mod float;
+pub mod keyword;
 pub mod number;
 pub mod word;
+pub mod write;
