@@ -48,7 +48,7 @@ div-whole f (fin false m e) (fin false n d) a b h p q =
     let n-pos : 0 < n = positive n (up d) b (down d) h (down-pos d) (q .1) in
     ap (λ t. cond t (cond (eqb m 0) nan (inf false)) (round f false (m * up e * down d) (n * up d * down e))) (ne-eqb n 0 (λ z. lt-irrefl 0 (subst (λ (k : ℕ). 0 < k) z n-pos)))
     ∙ round-same f false (m * up e * down d) (n * up d * down e) a b (mul-pos (mul-pos n-pos (up-pos d)) (down-pos e)) h
-      (crossed (m * up e) (n * up d) a b (down e) (down d) (p .1) (q .1))
+    (crossed (m * up e) (n * up d) a b (down e) (down d) (p .1) (q .1))
 
 -- a whole number up to 2 to the 53 is a float exactly
 pub whole-exact : (n : ℕ) → n ≤ 9007199254740992 → HasValue (ofInt binary64 (pos n)) false n 1

@@ -3,4 +3,5 @@ pub mod Bytes
 pub mod Words
 pub mod Numbers
 pub mod Floats
+pub mod Keywords
 pub mod Written

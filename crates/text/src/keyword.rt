@@ -72,7 +72,10 @@ fn place_in(names: &[u8], word: &[u8]) -> usize
 pub fn read_keyword(word: &[u8]) -> Keyword
     ensures { λ r. ⌜ r ≡ keywordOf (now (word .entry)) ⌝ }
 {
-    match place_in(b"network settings journal feed open strike poke short words close row steps route routes triple segments collapse kept", word) {
+    match place_in(
+        b"network settings journal feed open strike poke short words close row steps route routes triple segments collapse kept",
+        word,
+    ) {
         0 => Keyword::Network,
         1 => Keyword::Settings,
         2 => Keyword::Journal,
@@ -99,7 +102,10 @@ pub fn read_keyword(word: &[u8]) -> Keyword
 pub fn read_slice(word: &[u8]) -> Slice
     ensures { λ r. ⌜ r ≡ sliceOf (now (word .entry)) ⌝ }
 {
-    match place_in(b"lengths headings flags from to from_side to_side forward backward elements intrinsics near raw_logs distances answer decisions", word) {
+    match place_in(
+        b"lengths headings flags from to from_side to_side forward backward elements intrinsics near raw_logs distances answer decisions",
+        word,
+    ) {
         0 => Slice::Lengths,
         1 => Slice::Headings,
         2 => Slice::Flags,

@@ -3,10 +3,6 @@ use Rattle.text.proofs.Floats.{first-past}
 use borrow.Author.Needs.{needs}
 use Rattle.text.proofs.float.first_byte.Statement.{statement}
 use Rattle.text.proofs.float.first_byte.Tie as tie
-use Rattle.text.proofs.float.first_byte.Reads as reads
-use Rattle.text.proofs.float.first_byte.Lts as lts
-
-
 
 returns : tie.Need-returns
 returns c = first-past (c .before .args .word .now) (c .if1 .taken)

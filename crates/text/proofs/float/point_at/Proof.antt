@@ -9,9 +9,6 @@ use Rattle.text.specs.Floats.{point}
 use Rattle.text.proofs.Floats.{point-past, point-stop, point-turn}
 use Rattle.text.proofs.float.point_at.Statement.{statement}
 use Rattle.text.proofs.float.point_at.Tie as tie
-use Rattle.text.proofs.float.point_at.Reads as reads
-use Rattle.text.proofs.float.point_at.Lts as lts
-
 
 abbrev Inv-loop : tie.InvT-loop
 Inv-loop word k₀ k = (k ≤ length word) × (point word ≡ k + point (drop k word))

@@ -10,10 +10,6 @@ use mathlib.Core.Path.{_≡_, refl, sym, _∙_}
 use native.Mathlib.Nat.{pow-suc, pow-le-pow-right}
 use Rattle.text.proofs.float.power_of_ten.Statement.{statement}
 use Rattle.text.proofs.float.power_of_ten.Tie as tie
-use Rattle.text.proofs.float.power_of_ten.Reads as reads
-use Rattle.text.proofs.float.power_of_ten.Lts as lts
-
-
 
 abbrev Inv-loop : tie.InvT-loop
 Inv-loop k power₀ counter₀ power counter = (counter ≤ k) × (power ≡ 10 ^ counter)

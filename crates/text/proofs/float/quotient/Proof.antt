@@ -7,10 +7,6 @@ use Rattle.text.proofs.Floats.{ten-exact, divided, whole-counts}
 use borrow.Author.Needs.{needs}
 use Rattle.text.proofs.float.quotient.Statement.{statement}
 use Rattle.text.proofs.float.quotient.Tie as tie
-use Rattle.text.proofs.float.quotient.Reads as reads
-use Rattle.text.proofs.float.quotient.Lts as lts
-use Rattle.text.proofs.float.power_of_ten.Reads as power-of-ten-reads
-
 
 int-to-float-q : tie.Need-int-to-float-q
 int-to-float-q c = whole-counts _ (omega arith)

@@ -9,13 +9,6 @@ use lib.Seq.{length-take-le}
 use Rattle.text.proofs.Floats.{bits-short, bits-front-bad, bits-back-bad, bits-good}
 use Rattle.text.proofs.float.read_bits.Statement.{statement}
 use Rattle.text.proofs.float.read_bits.Tie as tie
-use Rattle.text.proofs.float.read_bits.Reads as reads
-use Rattle.text.proofs.float.read_bits.Lts as lts
-use Rattle.journal.proofs.float.float_at.Reads as float-at-reads
-use Rattle.text.proofs.number.read_whole.Reads as read-whole-reads
-
-
-
 
 returns : tie.Need-returns
 returns c = bits-short _ (c .if1 .taken)

@@ -6,14 +6,6 @@ use mathlib.Core.Path.{_≡_, sym, ap, _∙_}
 use Rattle.text.proofs.Floats.{point-le, decimal-empty, decimal-pointed, decimal-long, decimal-front-bad, decimal-behind-bad, decimal-good}
 use Rattle.text.proofs.float.read_decimal.Statement.{statement}
 use Rattle.text.proofs.float.read_decimal.Tie as tie
-use Rattle.text.proofs.float.read_decimal.Reads as reads
-use Rattle.text.proofs.float.read_decimal.Lts as lts
-use Rattle.text.proofs.float.behind_point.Reads as behind-point-reads
-use Rattle.text.proofs.float.point_at.Reads as point-at-reads
-use Rattle.text.proofs.float.quotient.Reads as quotient-reads
-use Rattle.text.proofs.number.read_whole.Reads as read-whole-reads
-
-
 
 point-at-requires : tie.Need-point-at-requires
 point-at-requires c κs = search needs

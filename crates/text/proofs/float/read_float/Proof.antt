@@ -4,12 +4,6 @@ use Rattle.text.specs.Floats.{floatOf, orElse, signedOf}
 use borrow.Author.Needs.{needs}
 use Rattle.text.proofs.float.read_float.Statement.{statement}
 use Rattle.text.proofs.float.read_float.Tie as tie
-use Rattle.text.proofs.float.read_float.Reads as reads
-use Rattle.text.proofs.float.read_float.Lts as lts
-use Rattle.text.proofs.float.read_bits.Reads as read-bits-reads
-use Rattle.text.proofs.float.read_signed.Reads as read-signed-reads
-
-
 
 read-bits-requires : tie.Need-read-bits-requires
 read-bits-requires c κs = search needs

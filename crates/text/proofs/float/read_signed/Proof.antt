@@ -9,14 +9,6 @@ use Rattle.text.specs.declared.float.Float64.the-variants.{Value}
 use Rattle.text.proofs.Floats.{first-some}
 use Rattle.text.proofs.float.read_signed.Statement.{statement}
 use Rattle.text.proofs.float.read_signed.Tie as tie
-use Rattle.text.proofs.float.read_signed.Reads as reads
-use Rattle.text.proofs.float.read_signed.Lts as lts
-use Rattle.binary64.proofs.minus_infinity.Reads as minus-infinity-reads
-use Rattle.text.proofs.float.first_byte.Reads as first-byte-reads
-use Rattle.text.proofs.float.read_decimal.Reads as read-decimal-reads
-use Rattle.text.proofs.word.same_bytes.Reads as same-bytes-reads
-
-
 
 slice-aggregate-same-bytes : tie.Need-slice-aggregate-same-bytes
 slice-aggregate-same-bytes c = search needs

@@ -3,8 +3,6 @@ use Rattle.text.proofs.Numbers.{figure-below, figure-decimal, figure-be
 use borrow.Author.Needs.{needs}
 use Rattle.text.proofs.number.figure.Statement.{statement}
 use Rattle.text.proofs.number.figure.Tie as tie
-use Rattle.text.proofs.number.figure.Reads as reads
-use Rattle.text.proofs.number.figure.Lts as lts
 
 returns : tie.Need-returns
 returns c = figure-below _ (c .if1 .taken)

@@ -3,8 +3,6 @@ use borrow.Author.Tests.{lt-ltb, le-ltb}
 use borrow.Author.Needs.{needs}
 use Rattle.text.proofs.number.fit.Statement.{statement}
 use Rattle.text.proofs.number.fit.Tie as tie
-use Rattle.text.proofs.number.fit.Reads as reads
-use Rattle.text.proofs.number.fit.Lts as lts
 
 cast-t3 : tie.Need-cast-t3
 cast-t3 c = search needs

@@ -6,11 +6,6 @@ use borrow.Author.Tests.{eq-eqb, ne-eqb}
 use borrow.Author.Needs.{needs}
 use Rattle.text.proofs.number.read_hex_word.Statement.{statement}
 use Rattle.text.proofs.number.read_hex_word.Tie as tie
-use Rattle.text.proofs.number.read_hex_word.Reads as reads
-use Rattle.text.proofs.number.read_hex_word.Lts as lts
-use Rattle.text.proofs.number.fit.Reads as fit-reads
-use Rattle.text.proofs.number.read_whole.Reads as read-whole-reads
-
 
 read-whole-requires : tie.Need-read-whole-requires
 read-whole-requires c κs = search needs

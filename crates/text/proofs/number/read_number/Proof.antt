@@ -6,11 +6,6 @@ use borrow.Author.Tests.{eq-eqb, ne-eqb}
 use borrow.Author.Needs.{needs}
 use Rattle.text.proofs.number.read_number.Statement.{statement}
 use Rattle.text.proofs.number.read_number.Tie as tie
-use Rattle.text.proofs.number.read_number.Reads as reads
-use Rattle.text.proofs.number.read_number.Lts as lts
-use Rattle.text.proofs.number.fit.Reads as fit-reads
-use Rattle.text.proofs.number.read_whole.Reads as read-whole-reads
-
 
 returns : tie.Need-returns
 unfolding numberOf

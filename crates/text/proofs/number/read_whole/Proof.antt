@@ -8,10 +8,6 @@ use Rattle.text.specs.Numbers.{whole}
 use Rattle.text.proofs.Numbers.{next-value, whole-past, whole-over, whole-other, whole-turn}
 use Rattle.text.proofs.number.read_whole.Statement.{statement}
 use Rattle.text.proofs.number.read_whole.Tie as tie
-use Rattle.text.proofs.number.read_whole.Reads as reads
-use Rattle.text.proofs.number.read_whole.Lts as lts
-use Rattle.text.proofs.number.figure.Reads as figure-reads
-
 
 abbrev Inv-loop : tie.InvT-loop
 Inv-loop base limit n bytes value₀ k₀ k-end value k = (k ≤ length bytes) × (value < limit) × (whole base limit n bytes ≡ whole base limit value (drop k bytes))

@@ -4,9 +4,6 @@ use Rattle.text.specs.Words.{breaks}
 use Rattle.text.proofs.Words.{breaks-last}
 use Rattle.text.proofs.word.breaks.Statement.{statement}
 use Rattle.text.proofs.word.breaks.Tie as tie
-use Rattle.text.proofs.word.breaks.Reads as reads
-use Rattle.text.proofs.word.breaks.Lts as lts
-
 
 returns : tie.Need-returns
 unfolding breaks

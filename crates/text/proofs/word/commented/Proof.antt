@@ -2,9 +2,6 @@
 use Rattle.text.proofs.Words.{commented-end, commented-start, commented-on}
 use Rattle.text.proofs.word.commented.Statement.{statement}
 use Rattle.text.proofs.word.commented.Tie as tie
-use Rattle.text.proofs.word.commented.Reads as reads
-use Rattle.text.proofs.word.commented.Lts as lts
-
 
 returns : tie.Need-returns
 returns c = commented-end _ _ (c .if1 .taken)

@@ -3,10 +3,6 @@ use Rattle.text.specs.Words.{nextWord}
 use borrow.Author.Needs.{needs}
 use Rattle.text.proofs.word.next_word.Statement.{statement}
 use Rattle.text.proofs.word.next_word.Tie as tie
-use Rattle.text.proofs.word.next_word.Reads as reads
-use Rattle.text.proofs.word.next_word.Lts as lts
-use Rattle.text.proofs.word.skip_gap.Reads as skip-gap-reads
-use Rattle.text.proofs.word.skip_word.Reads as skip-word-reads
 
 skip-gap-requires : tie.Need-skip-gap-requires
 skip-gap-requires c κs = search needs

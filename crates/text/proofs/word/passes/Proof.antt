@@ -2,10 +2,6 @@
 use borrow.Author.Needs.{needs}
 use Rattle.text.proofs.word.passes.Statement.{statement}
 use Rattle.text.proofs.word.passes.Tie as tie
-use Rattle.text.proofs.word.passes.Reads as reads
-use Rattle.text.proofs.word.passes.Lts as lts
-use Rattle.text.proofs.word.breaks.Reads as breaks-reads
-
 
 returns : tie.Need-returns
 returns c = rw (c .if1 .taken)

@@ -9,10 +9,6 @@ use Rattle.text.specs.Bytes.{same}
 use Rattle.text.proofs.Bytes.{same-long, same-past, same-stop, same-turn}
 use Rattle.text.proofs.word.same_bytes.Statement.{statement}
 use Rattle.text.proofs.word.same_bytes.Tie as tie
-use Rattle.text.proofs.word.same_bytes.Reads as reads
-use Rattle.text.proofs.word.same_bytes.Lts as lts
-
-
 
 abbrev Inv-loop : tie.InvT-loop
 Inv-loop a b k₀ k-end k = (k ≤ length a) × (same a b ≡ same (drop k a) (drop k b))

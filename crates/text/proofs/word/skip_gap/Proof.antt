@@ -11,14 +11,6 @@ use native.Mathlib.Omega.{arith}
 use Prim.Native.Nat.{_+_, _-_, _≤_}
 use Rattle.text.proofs.word.skip_gap.Statement.{statement}
 use Rattle.text.proofs.word.skip_gap.Tie as tie
-use Rattle.text.proofs.word.skip_gap.Reads as reads
-use Rattle.text.proofs.word.skip_gap.Lts as lts
-use Rattle.text.proofs.word.commented.Reads as commented-reads
-use Rattle.text.proofs.word.passes.Reads as passes-reads
-
-
-
-
 
 abbrev Inv-loop : tie.InvT-loop
 Inv-loop text at comment₀ i₀ comment i = at + gap false (drop at text) ≡ i + gap comment (drop i text)

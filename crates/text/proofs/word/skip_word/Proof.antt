@@ -9,10 +9,6 @@ use native.Mathlib.Omega.{arith}
 use Prim.Native.Nat.{_+_, _-_, _≤_}
 use Rattle.text.proofs.word.skip_word.Statement.{statement}
 use Rattle.text.proofs.word.skip_word.Tie as tie
-use Rattle.text.proofs.word.skip_word.Reads as reads
-use Rattle.text.proofs.word.skip_word.Lts as lts
-use Rattle.text.proofs.word.breaks.Reads as breaks-reads
-
 
 abbrev Inv-loop : tie.InvT-loop
 Inv-loop text at i₀ i = at + run (drop at text) ≡ i + run (drop i text)

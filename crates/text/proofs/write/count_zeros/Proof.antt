@@ -9,9 +9,6 @@ use Rattle.text.specs.Written.{zeros}
 use Rattle.text.proofs.Written.{zeros-past, zeros-stop, zeros-turn}
 use Rattle.text.proofs.write.count_zeros.Statement.{statement}
 use Rattle.text.proofs.write.count_zeros.Tie as tie
-use Rattle.text.proofs.write.count_zeros.Reads as reads
-use Rattle.text.proofs.write.count_zeros.Lts as lts
-
 
 abbrev Inv-loop : tie.InvT-loop
 Inv-loop digits k₀ k = (k ≤ length digits) × (zeros digits ≡ k + zeros (drop k digits))

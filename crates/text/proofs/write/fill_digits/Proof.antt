@@ -8,10 +8,6 @@ use Rattle.text.specs.Written.{lastDigits}
 use Rattle.text.proofs.Written.{digits-none, digits-turn, digits-done, digit-small}
 use Rattle.text.proofs.write.fill_digits.Statement.{statement}
 use Rattle.text.proofs.write.fill_digits.Tie as tie
-use Rattle.text.proofs.write.fill_digits.Reads as reads
-use Rattle.text.proofs.write.fill_digits.Lts as lts
-use Rattle.text.proofs.write.glyph.Reads as glyph-reads
-
 
 abbrev Inv-loop : tie.InvT-loop
 Inv-loop out₀ base n k₀ rest₀ out k rest = (k ≤ length out₀) × (length out ≡ length out₀) × (rest ≡ n / base ^ (length out₀ - k)) × (drop k out ≡ lastDigits base (length out₀ - k) n)

@@ -4,8 +4,6 @@ use Rattle.text.specs.Written.{glyph}
 use borrow.Author.Needs.{needs}
 use Rattle.text.proofs.write.glyph.Statement.{statement}
 use Rattle.text.proofs.write.glyph.Tie as tie
-use Rattle.text.proofs.write.glyph.Reads as reads
-use Rattle.text.proofs.write.glyph.Lts as lts
 
 cast-result : tie.Need-cast-result
 cast-result c = search needs

@@ -8,9 +8,6 @@ use lib.Seq.{sets}
 use Rattle.text.proofs.Written.{copied-turn, copied-all, no-room, room}
 use Rattle.text.proofs.write.put_bytes.Statement.{statement}
 use Rattle.text.proofs.write.put_bytes.Tie as tie
-use Rattle.text.proofs.write.put_bytes.Reads as reads
-use Rattle.text.proofs.write.put_bytes.Lts as lts
-
 
 abbrev Inv-loop : tie.InvT-loop
 Inv-loop out₀ at word k₀ k-end out k = (k ≤ length word) × (length out ≡ length out₀) × (out ≡ sets out₀ at (take k word))

@@ -4,12 +4,6 @@ use Rattle.text.specs.Written.{lastDigits}
 use borrow.Author.Needs.{needs}
 use Rattle.text.proofs.write.put_float.Statement.{statement}
 use Rattle.text.proofs.write.put_float.Tie as tie
-use Rattle.text.proofs.write.put_float.Reads as reads
-use Rattle.text.proofs.write.put_float.Lts as lts
-use Rattle.journal.proofs.float.bits_of.Reads as bits-of-reads
-use Rattle.text.proofs.write.fill_digits.Reads as fill-digits-reads
-use Rattle.text.proofs.write.put_bytes.Reads as put-bytes-reads
-
 
 slice-aggregate-fill-digits : tie.Need-slice-aggregate-fill-digits
 slice-aggregate-fill-digits c = search needs

@@ -2,11 +2,6 @@
 use borrow.Author.Needs.{needs}
 use Rattle.text.proofs.write.put_hex_word.Statement.{statement}
 use Rattle.text.proofs.write.put_hex_word.Tie as tie
-use Rattle.text.proofs.write.put_hex_word.Reads as reads
-use Rattle.text.proofs.write.put_hex_word.Lts as lts
-use Rattle.text.proofs.write.fill_digits.Reads as fill-digits-reads
-use Rattle.text.proofs.write.put_bytes.Reads as put-bytes-reads
-
 
 slice-aggregate-fill-digits : tie.Need-slice-aggregate-fill-digits
 slice-aggregate-fill-digits c = search needs

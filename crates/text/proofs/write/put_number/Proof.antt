@@ -4,11 +4,6 @@ use native.Mathlib.Omega.{arith}
 use Rattle.text.proofs.Written.{zeros-le, decimal-part}
 use Rattle.text.proofs.write.put_number.Statement.{statement}
 use Rattle.text.proofs.write.put_number.Tie as tie
-use Rattle.text.proofs.write.put_number.Reads as reads
-use Rattle.text.proofs.write.put_number.Lts as lts
-use Rattle.text.proofs.write.count_zeros.Reads as count-zeros-reads
-use Rattle.text.proofs.write.fill_digits.Reads as fill-digits-reads
-use Rattle.text.proofs.write.put_bytes.Reads as put-bytes-reads
 
 slice-aggregate-fill-digits : tie.Need-slice-aggregate-fill-digits
 slice-aggregate-fill-digits c = search needs
