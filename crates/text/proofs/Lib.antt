@@ -4,4 +4,5 @@ pub mod Words
 pub mod Numbers
 pub mod Floats
 pub mod Keywords
+pub mod Reading
 pub mod Written

@@ -1,5 +1,5 @@
 -- A turn of the loops that look for a word, and their ends. Assumes nothing.
-use Prim.Native.Nat.{ℕ, zero, suc, _+_, _-_, _≤_, _<_, zero-le, suc-le-suc}
+use Prim.Native.Nat.{ℕ, zero, suc, _+_, _-_, _≤_, _<_, min, zero-le, suc-le-suc}
 use native.Mathlib.Nat.{add-zero, add-suc, suc-add, le-of-suc-le-suc, not-suc-le-zero}
 use native.Mathlib.Numerals.{add-one}
 use native.Mathlib.Omega.{arith}
@@ -7,13 +7,13 @@ use mathlib.Core.Path.{_≡_, refl, sym, ap, _∙_}
 use mathlib.Core.Bool.{Bool, true, false, not, _&&_, _||_, cond}
 use mathlib.Core.List.{List, [], _∷_}
 use mathlib.Core.Logic.{⊎-elim}
-use lib.Dec.{eqb, ltb}
-use lib.ListN.{length, getD, drop, drop-of-length-le, length-drop}
-use lib.Seq.{drop-cons, getD-drop}
-use borrow.Author.Tests.{eq-eqb, ne-eqb, ltb-true, ltb-false}
+use lib.Dec.{eqb, leb, ltb}
+use lib.ListN.{length, getD, take, drop, drop-of-length-le, length-drop}
+use lib.Seq.{drop-cons, getD-drop, take-all, take-nil}
+use borrow.Author.Tests.{eq-eqb, ne-eqb, leb-true, leb-false, ltb-true, ltb-false}
 use Rattle.lists.proofs.Loops.{or-right, clash, two}
 use Rattle.text.proofs.Bytes.{and-false}
-use Rattle.text.specs.Words.{breaks, commented, gap, run, nextWord}
+use Rattle.text.specs.Words.{breaks, commented, gap, run, nextWord, bytesOf}
 use Rattle.text.specs.declared.word.Word.{Word}
 
 -- past the last byte there is no gap and no word
@@ -159,3 +159,26 @@ is-word text at =
 pub word-past : (text : List ℕ) (at : ℕ) → length text ≤ at → nextWord text at .first ≡ nextWord text at .end
 unfolding nextWord
 word-past text at h = sym (run-past text (at + gap false (drop at text)) (omega arith))
+
+-- ---- the bytes of a word, as far as the text has them
+
+pub bytes-none : (text : List ℕ) (w : Word) (end : ℕ) → end ≡ min (w .end) (length text) → end < w .first → [] ≡ bytesOf text w
+bytes-none text w end e h = ⊎-elim (λ t. short (leb-true _ _ t)) (λ t. past (leb-false _ _ t)) (two (leb (w .end) (length text)))
+  where
+    short : w .end ≤ length text → [] ≡ bytesOf text w
+    short l = let z : w .end - w .first ≡ 0 = omega arith in rw z
+    past : length text < w .end → [] ≡ bytesOf text w
+    past l =
+        let f : length text ≤ w .first = omega arith in
+        sym (ap (take (w .end - w .first)) (drop-of-length-le text f) ∙ take-nil (w .end - w .first))
+
+pub bytes-some : (text : List ℕ) (w : Word) (end : ℕ) → end ≡ min (w .end) (length text) → w .first ≤ end → take (end - w .first) (drop (w .first) text) ≡ bytesOf text w
+bytes-some text w end e h = ⊎-elim (λ t. short (leb-true _ _ t)) (λ t. past (leb-false _ _ t)) (two (leb (w .end) (length text)))
+  where
+    short : w .end ≤ length text → take (end - w .first) (drop (w .first) text) ≡ bytesOf text w
+    short l = let z : end - w .first ≡ w .end - w .first = omega arith in rw z
+    past : length text < w .end → take (end - w .first) (drop (w .first) text) ≡ bytesOf text w
+    past l =
+        let m : length (drop (w .first) text) ≤ end - w .first = omega (arith, length-drop (w .first) text) in
+        let n : length (drop (w .first) text) ≤ w .end - w .first = omega (arith, length-drop (w .first) text) in
+        take-all (end - w .first) (drop (w .first) text) m ∙ sym (take-all (w .end - w .first) (drop (w .first) text) n)

@@ -1,4 +1,5 @@
 // The words of the case language: found in a text, read and written.
+pub mod cursor;
 pub mod float;
 pub mod keyword;
 pub mod number;
