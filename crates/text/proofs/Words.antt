@@ -167,6 +167,7 @@ bytes-none text w end e h = ⊎-elim (λ t. short (leb-true _ _ t)) (λ t. past 
   where
     short : w .end ≤ length text → [] ≡ bytesOf text w
     short l = let z : w .end - w .first ≡ 0 = omega arith in rw z
+
     past : length text < w .end → [] ≡ bytesOf text w
     past l =
         let f : length text ≤ w .first = omega arith in
@@ -177,6 +178,7 @@ bytes-some text w end e h = ⊎-elim (λ t. short (leb-true _ _ t)) (λ t. past 
   where
     short : w .end ≤ length text → take (end - w .first) (drop (w .first) text) ≡ bytesOf text w
     short l = let z : end - w .first ≡ w .end - w .first = omega arith in rw z
+
     past : length text < w .end → take (end - w .first) (drop (w .first) text) ≡ bytesOf text w
     past l =
         let m : length (drop (w .first) text) ≤ end - w .first = omega (arith, length-drop (w .first) text) in

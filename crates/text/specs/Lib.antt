@@ -6,3 +6,4 @@ pub mod Floats
 pub mod Keywords
 pub mod Cursor
 pub mod Written
+pub mod Lists

@@ -2,6 +2,7 @@
 pub mod cursor;
 pub mod float;
 pub mod keyword;
+pub mod list;
 pub mod number;
 pub mod word;
 pub mod write;

@@ -4,10 +4,6 @@ use Rattle.text.specs.Cursor.{atEnd}
 use borrow.Author.Needs.{needs}
 use Rattle.text.proofs.cursor.at_end.Statement.{statement}
 use Rattle.text.proofs.cursor.at_end.Tie as tie
-use Rattle.text.proofs.cursor.at_end.Reads as reads
-use Rattle.text.proofs.cursor.at_end.Lts as lts
-use Rattle.text.proofs.word.next_word.Reads as next-word-reads
-
 
 next-word-requires : tie.Need-next-word-requires
 next-word-requires c κs = search needs

@@ -4,11 +4,6 @@ use mathlib.Core.Path.{_≡_, sym, ap, _∙_}
 use borrow.Author.Needs.{needs}
 use Rattle.text.proofs.cursor.float_taken.Statement.{statement}
 use Rattle.text.proofs.cursor.float_taken.Tie as tie
-use Rattle.text.proofs.cursor.float_taken.Reads as reads
-use Rattle.text.proofs.cursor.float_taken.Lts as lts
-use Rattle.text.proofs.cursor.pass.Reads as pass-reads
-
-
 
 enum-known-float : tie.Need-enum-known-float
 enum-known-float c = search needs

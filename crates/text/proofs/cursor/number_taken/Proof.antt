@@ -3,10 +3,6 @@ use mathlib.Core.Path.{_≡_, sym, ap, _∙_}
 use borrow.Author.Needs.{needs}
 use Rattle.text.proofs.cursor.number_taken.Statement.{statement}
 use Rattle.text.proofs.cursor.number_taken.Tie as tie
-use Rattle.text.proofs.cursor.number_taken.Reads as reads
-use Rattle.text.proofs.cursor.number_taken.Lts as lts
-use Rattle.text.proofs.cursor.pass.Reads as pass-reads
-
 
 enum-known-number : tie.Need-enum-known-number
 enum-known-number c = search needs

@@ -8,16 +8,6 @@ use Rattle.text.specs.Cursor.{takeFloat}
 use borrow.Author.Needs.{needs}
 use Rattle.text.proofs.cursor.take_float.Statement.{statement}
 use Rattle.text.proofs.cursor.take_float.Tie as tie
-use Rattle.text.proofs.cursor.take_float.Reads as reads
-use Rattle.text.proofs.cursor.take_float.Lts as lts
-use Rattle.text.proofs.cursor.float_taken.Reads as float-taken-reads
-use Rattle.text.proofs.cursor.word_bytes.Reads as word-bytes-reads
-use Rattle.text.proofs.float.read_float.Reads as read-float-reads
-use Rattle.text.proofs.word.next_word.Reads as next-word-reads
-
-
-
-
 
 returns : tie.Need-returns
 unfolding ofBits takeFloat

@@ -7,15 +7,6 @@ use Rattle.text.specs.Cursor.{takeHexWord}
 use borrow.Author.Needs.{needs}
 use Rattle.text.proofs.cursor.take_hex_word.Statement.{statement}
 use Rattle.text.proofs.cursor.take_hex_word.Tie as tie
-use Rattle.text.proofs.cursor.take_hex_word.Reads as reads
-use Rattle.text.proofs.cursor.take_hex_word.Lts as lts
-use Rattle.text.proofs.cursor.number_taken.Reads as number-taken-reads
-use Rattle.text.proofs.cursor.word_bytes.Reads as word-bytes-reads
-use Rattle.text.proofs.number.read_hex_word.Reads as read-hex-word-reads
-use Rattle.text.proofs.word.next_word.Reads as next-word-reads
-
-
-
 
 returns : tie.Need-returns
 unfolding takeHexWord

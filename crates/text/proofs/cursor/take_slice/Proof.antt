@@ -4,14 +4,6 @@ use Rattle.text.specs.Cursor.{takeSlice}
 use borrow.Author.Needs.{needs}
 use Rattle.text.proofs.cursor.take_slice.Statement.{statement}
 use Rattle.text.proofs.cursor.take_slice.Tie as tie
-use Rattle.text.proofs.cursor.take_slice.Reads as reads
-use Rattle.text.proofs.cursor.take_slice.Lts as lts
-use Rattle.text.proofs.cursor.pass.Reads as pass-reads
-use Rattle.text.proofs.cursor.word_bytes.Reads as word-bytes-reads
-use Rattle.text.proofs.keyword.read_slice.Reads as read-slice-reads
-use Rattle.text.proofs.word.next_word.Reads as next-word-reads
-
-
 
 returns : tie.Need-returns
 unfolding takeSlice

@@ -3,9 +3,6 @@ use Rattle.text.proofs.Words.{bytes-none, bytes-some}
 use borrow.Author.Needs.{needs}
 use Rattle.text.proofs.cursor.word_bytes.Statement.{statement}
 use Rattle.text.proofs.cursor.word_bytes.Tie as tie
-use Rattle.text.proofs.cursor.word_bytes.Reads as reads
-use Rattle.text.proofs.cursor.word_bytes.Lts as lts
-use Rattle.text.proofs.cursor.least.Reads as least-reads
 
 least-requires : tie.Need-least-requires
 least-requires c κs = search needs
