@@ -7,3 +7,4 @@ pub mod Keywords
 pub mod Reading
 pub mod Written
 pub mod Lists
+pub mod Windows

@@ -2,7 +2,7 @@
 use Prim.Native.Nat.{ℕ, suc, min}
 use mathlib.Core.Bool.{Bool, true, false, cond}
 use mathlib.Core.List.{List}
-use lib.Dec.{eqb}
+use lib.Dec.{eqb, leb}
 use Rattle.binary64.specs.Values.{pzero}
 use Rattle.text.specs.Words.{nextWord, bytesOf}
 use Rattle.text.specs.Numbers.{numberOf, hexWordOf}
@@ -30,6 +30,14 @@ numberTaken c w Number.Unreadable = record { cursor = passed c w true; value = 0
 
 unfoldable pub takeNumber : List ℕ → Cursor → TakenNumber
 takeNumber text c = let w = nextWord text (c .at) in cond (c .bad) (record { cursor = c; value = 0 }) (numberTaken c w (numberOf (bytesOf text w)))
+
+-- the last word that was read counts as unreadable
+abbrev pub refused : Cursor → Cursor
+refused c = record { at = c .at; words = c .words; bad = true }
+
+-- a number over `most` counts as unreadable
+unfoldable pub takeCount : List ℕ → ℕ → Cursor → TakenNumber
+takeCount text most c = let t = takeNumber text c in cond (leb (t .value) most) t (record { cursor = refused (t .cursor); value = 0 })
 
 unfoldable pub takeHexWord : List ℕ → Cursor → TakenNumber
 takeHexWord text c = let w = nextWord text (c .at) in cond (c .bad) (record { cursor = c; value = 0 }) (numberTaken c w (hexWordOf (bytesOf text w)))

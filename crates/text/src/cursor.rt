@@ -13,7 +13,7 @@ use crate::word::next_word;
 ghost use mathlib.Core.Path.{_≡_};
 ghost use Prim.Native.Nat.{suc, min};
 ghost use Rattle.text.specs.Words.{bytesOf};
-ghost use Rattle.text.specs.Cursor.{passed, numberTaken, floatTaken, takeNumber, takeHexWord, takeFloat, takeKeyword, takeSlice, atEnd};
+ghost use Rattle.text.specs.Cursor.{passed, numberTaken, floatTaken, takeNumber, refused, takeCount, takeHexWord, takeFloat, takeKeyword, takeSlice, atEnd};
 
 // Where reading stands: the place behind the words that were read, and how many they are, up to 4,294,967,295. Where the last of them could not be
 // read, nothing more is read.
@@ -43,7 +43,7 @@ pub struct TakenSlice {
     pub value: Slice,
 }
 
-fn least(a: usize, b: usize) -> usize
+pub fn least(a: usize, b: usize) -> usize
     ensures { λ r. ⌜ r ≡ min a b ⌝ }
 {
     if a < b {
@@ -126,6 +126,32 @@ pub fn take_number(text: &[u8], c: Cursor) -> TakenNumber
     }
     let w = next_word(text, c.at);
     number_taken(c, w, read_number(word_bytes(text, w)))
+}
+
+// The last word that was read counts as unreadable.
+pub fn refuse(c: Cursor) -> Cursor
+    ensures { λ r. ⌜ r ≡ refused c ⌝ }
+{
+    Cursor {
+        at: c.at,
+        words: c.words,
+        bad: true,
+    }
+}
+
+// The next word as a number up to `most`. A larger one counts as unreadable.
+pub fn take_count(text: &[u8], c: Cursor, most: u32) -> TakenNumber
+    ensures { λ r. ⌜ r ≡ takeCount (now (text .entry)) most c ⌝ }
+{
+    let taken = take_number(text, c);
+    if taken.value <= most {
+        return taken;
+    }
+    let cursor = taken.cursor;
+    TakenNumber {
+        cursor: refuse(cursor),
+        value: 0,
+    }
 }
 
 // The next word as a word of eight hexadecimal digits.

@@ -4,5 +4,6 @@ pub mod float;
 pub mod keyword;
 pub mod list;
 pub mod number;
+pub mod window;
 pub mod word;
 pub mod write;

@@ -4,7 +4,36 @@ use crate::cursor::take_float;
 use crate::cursor::take_number;
 ghost use mathlib.Core.Path.{_≡_};
 ghost use Prim.Native.Nat.{_<_};
+ghost use lib.ListN.{take};
 ghost use Rattle.text.specs.Lists.{numberInto, floatInto, elementsOf, element, readElements, relationsOf, relation, readRelations, candidatesOf, candidate, readCandidates, readDistances, segmentsOf, segment, readSegments};
+
+// The first n entries of a slice; all of them where there are fewer.
+pub fn first_numbers<'a>(numbers: &'a [u32], n: usize) -> &'a [u32]
+    ensures { λ r. ⌜ now r ≡ take n (now (numbers .entry)) ⌝ }
+{
+    if n < numbers.len() {
+        return &numbers[..n];
+    }
+    numbers
+}
+
+pub fn first_floats<'a>(floats: &'a [f64], n: usize) -> &'a [f64]
+    ensures { λ r. ⌜ now r ≡ take n (now (floats .entry)) ⌝ }
+{
+    if n < floats.len() {
+        return &floats[..n];
+    }
+    floats
+}
+
+pub fn first_bytes<'a>(bytes: &'a [u8], n: usize) -> &'a [u8]
+    ensures { λ r. ⌜ now r ≡ take n (now (bytes .entry)) ⌝ }
+{
+    if n < bytes.len() {
+        return &bytes[..n];
+    }
+    bytes
+}
 
 // The next word as a number, into entry i.
 fn number_into(text: &[u8], c: Cursor, i: usize, numbers: &mut [u32]) -> Cursor
