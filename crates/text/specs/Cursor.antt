@@ -1,0 +1,64 @@
+-- Reading a text word by word.
+use Prim.Native.Nat.{ℕ, suc, min}
+use mathlib.Core.Bool.{Bool, true, false, cond}
+use mathlib.Core.List.{List}
+use lib.Dec.{eqb, leb}
+use Rattle.binary64.specs.Values.{pzero}
+use Rattle.text.specs.Words.{nextWord, bytesOf}
+use Rattle.text.specs.Numbers.{numberOf, hexWordOf}
+use Rattle.text.specs.Floats.{floatOf}
+use Rattle.text.specs.Keywords.{keywordOf, sliceOf}
+use Rattle.text.specs.declared.word.Word.{Word}
+use Rattle.text.specs.declared.number.Number.{Number}
+use Rattle.text.specs.declared.float.Float64.{Float64}
+use Rattle.text.specs.declared.keyword.Keyword.{Keyword}
+use Rattle.text.specs.declared.keyword.Slice.{Slice}
+use Rattle.text.specs.declared.cursor.Cursor.{Cursor}
+use Rattle.text.specs.declared.cursor.TakenKeyword.{TakenKeyword}
+use Rattle.text.specs.declared.cursor.TakenSlice.{TakenSlice}
+use Rattle.text.specs.declared.cursor.TakenNumber.{TakenNumber}
+use Rattle.text.specs.declared.cursor.TakenFloat.{TakenFloat}
+
+-- the cursor past a word, which is counted and may be unreadable
+abbrev pub passed : Cursor → Word → Bool → Cursor
+passed c w bad = record { at = w .end; words = min (suc (c .words)) 4294967295; bad = bad }
+
+-- behind an unreadable word nothing is read
+abbrev pub numberTaken : Cursor → Word → Number → TakenNumber
+numberTaken c w (Number.Value n) = record { cursor = passed c w false; value = n }
+numberTaken c w Number.Unreadable = record { cursor = passed c w true; value = 0 }
+
+unfoldable pub takeNumber : List ℕ → Cursor → TakenNumber
+takeNumber text c = let w = nextWord text (c .at) in cond (c .bad) (record { cursor = c; value = 0 }) (numberTaken c w (numberOf (bytesOf text w)))
+
+-- the last word that was read counts as unreadable
+abbrev pub refused : Cursor → Cursor
+refused c = record { at = c .at; words = c .words; bad = true }
+
+-- a number over `most` counts as unreadable
+unfoldable pub takeCount : List ℕ → ℕ → Cursor → TakenNumber
+takeCount text most c = let t = takeNumber text c in cond (leb (t .value) most) t (record { cursor = refused (t .cursor); value = 0 })
+
+unfoldable pub takeHexWord : List ℕ → Cursor → TakenNumber
+takeHexWord text c = let w = nextWord text (c .at) in cond (c .bad) (record { cursor = c; value = 0 }) (numberTaken c w (hexWordOf (bytesOf text w)))
+
+abbrev pub floatTaken : Cursor → Word → Float64 → TakenFloat
+floatTaken c w (Float64.Value x) = record { cursor = passed c w false; value = x }
+floatTaken c w Float64.Unreadable = record { cursor = passed c w true; value = pzero }
+
+unfoldable pub takeFloat : List ℕ → Cursor → TakenFloat
+takeFloat text c = let w = nextWord text (c .at) in cond (c .bad) (record { cursor = c; value = pzero }) (floatTaken c w (floatOf (bytesOf text w)))
+
+-- no word is unreadable as a keyword or a slice's name
+unfoldable pub takeKeyword : List ℕ → Cursor → TakenKeyword
+takeKeyword text c =
+    let w = nextWord text (c .at) in
+    cond (c .bad) (record { cursor = c; value = Keyword.Unknown }) (record { cursor = passed c w false; value = keywordOf (bytesOf text w) })
+
+unfoldable pub takeSlice : List ℕ → Cursor → TakenSlice
+takeSlice text c =
+    let w = nextWord text (c .at) in
+    cond (c .bad) (record { cursor = c; value = Slice.Unknown }) (record { cursor = passed c w false; value = sliceOf (bytesOf text w) })
+
+unfoldable pub atEnd : List ℕ → Cursor → Bool
+atEnd text c = let w = nextWord text (c .at) in eqb (w .first) (w .end)
