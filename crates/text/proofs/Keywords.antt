@@ -11,8 +11,8 @@ use lib.Dec.{eqb}
 use lib.ListN.{length, getD, List·getD-eq-default}
 use borrow.Author.Tests.{eq-eqb, ne-eqb}
 use Rattle.text.specs.Bytes.{bytes, same}
-use Rattle.text.specs.Words.{breaks, commented, gap, run, nextWord, bytesOf}
-use Rattle.text.specs.Keywords.{found, keywords, keywordOf, slices, sliceOf, wordsFrom, allWords, placeIn}
+use Rattle.text.specs.Words.{breaks, commented, gap, run, nextWord, bytesOf, wordsFrom, allWords}
+use Rattle.text.specs.Keywords.{found, keywords, keywordOf, slices, sliceOf, placeIn}
 use Rattle.text.specs.declared.keyword.Keyword.{Keyword}
 use Rattle.text.specs.declared.keyword.Slice.{Slice}
 use Rattle.text.specs.declared.word.Word.{Word}

@@ -6,5 +6,6 @@ pub mod Floats
 pub mod Keywords
 pub mod Reading
 pub mod Written
+pub mod Back
 pub mod Lists
 pub mod Windows

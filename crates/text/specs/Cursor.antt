@@ -1,9 +1,10 @@
 -- Reading a text word by word.
-use Prim.Native.Nat.{ℕ, suc, min}
+use Prim.Native.Nat.{ℕ, zero, suc, min}
 use mathlib.Core.Bool.{Bool, true, false, cond}
 use mathlib.Core.List.{List}
 use lib.Dec.{eqb, leb}
 use Rattle.binary64.specs.Values.{pzero}
+use Rattle.text.specs.Bytes.{same}
 use Rattle.text.specs.Words.{nextWord, bytesOf}
 use Rattle.text.specs.Numbers.{numberOf, hexWordOf}
 use Rattle.text.specs.Floats.{floatOf}
@@ -16,6 +17,7 @@ use Rattle.text.specs.declared.keyword.Slice.{Slice}
 use Rattle.text.specs.declared.cursor.Cursor.{Cursor}
 use Rattle.text.specs.declared.cursor.TakenKeyword.{TakenKeyword}
 use Rattle.text.specs.declared.cursor.TakenSlice.{TakenSlice}
+use Rattle.text.specs.declared.cursor.TakenWord.{TakenWord}
 use Rattle.text.specs.declared.cursor.TakenNumber.{TakenNumber}
 use Rattle.text.specs.declared.cursor.TakenFloat.{TakenFloat}
 
@@ -60,5 +62,19 @@ takeSlice text c =
     let w = nextWord text (c .at) in
     cond (c .bad) (record { cursor = c; value = Slice.Unknown }) (record { cursor = passed c w false; value = sliceOf (bytesOf text w) })
 
+-- a word that is not the given one is left
+unfoldable pub takeIf : List ℕ → List ℕ → Cursor → TakenWord
+takeIf text word c =
+    let w = nextWord text (c .at) in
+    let left : TakenWord = record { cursor = c; found = false } in
+    cond (c .bad) left (cond (same (bytesOf text w) word) (record { cursor = passed c w false; found = true }) left)
+
 unfoldable pub atEnd : List ℕ → Cursor → Bool
 atEnd text c = let w = nextWord text (c .at) in eqb (w .first) (w .end)
+
+-- ---- numbers of words
+
+-- the cursor past the first n words of a text
+unfoldable pub along : List ℕ → ℕ → Cursor
+along text zero = record { at = 0; words = 0; bad = false }
+along text (suc n) = let c = along text n in passed c (nextWord text (c .at)) false

@@ -1,11 +1,8 @@
 -- The case language's words for lines and for slices.
-use Prim.Native.Nat.{ℕ, zero, suc}
+use Prim.Native.Nat.{ℕ, suc}
 use mathlib.Core.Bool.{cond}
 use mathlib.Core.List.{List, [], _∷_}
-use lib.Dec.{eqb}
-use lib.ListN.{length}
 use Rattle.text.specs.Bytes.{bytes, same}
-use Rattle.text.specs.Words.{nextWord, bytesOf}
 use Rattle.text.specs.declared.keyword.Keyword.{Keyword}
 use Rattle.text.specs.declared.keyword.Slice.{Slice}
 
@@ -39,17 +36,6 @@ unfoldable pub sliceOf : List ℕ → Slice
 sliceOf w = found Slice.Unknown slices w
 
 -- ---- the same by numbers
-
--- the words of a text from a place on, at most n of them
-unfoldable pub wordsFrom : ℕ → List ℕ → ℕ → List (List ℕ)
-wordsFrom zero text at = []
-wordsFrom (suc n) text at =
-    let w = nextWord text at in
-    let further = wordsFrom n text (w .end) in
-    cond (eqb (w .first) (w .end)) [] (bytesOf text w ∷ further)
-
-unfoldable pub allWords : List ℕ → List (List ℕ)
-allWords text = wordsFrom (length text) text 0
 
 -- the number of the first name that is the word; how many names there are where none is
 unfoldable pub placeIn : List (List ℕ) → List ℕ → ℕ

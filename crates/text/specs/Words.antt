@@ -1,9 +1,9 @@
 -- The words of a text: bytes between separators, with comments left out.
-use Prim.Native.Nat.{ℕ, suc, _+_, _-_}
+use Prim.Native.Nat.{ℕ, zero, suc, _+_, _-_}
 use mathlib.Core.Bool.{Bool, true, false, not, _&&_, _||_, cond}
 use mathlib.Core.List.{List, [], _∷_}
 use lib.Dec.{eqb}
-use lib.ListN.{take, drop}
+use lib.ListN.{length, take, drop}
 use Rattle.text.specs.declared.word.Word.{Word}
 
 -- a tab, a line's end, a carriage return or a space
@@ -35,3 +35,15 @@ nextWord text at = let first = at + gap false (drop at text) in record { first =
 -- its bytes
 abbrev pub bytesOf : List ℕ → Word → List ℕ
 bytesOf text w = take (w .end - w .first) (drop (w .first) text)
+
+-- the words of a text from a place on, at most n of them
+unfoldable pub wordsFrom : ℕ → List ℕ → ℕ → List (List ℕ)
+wordsFrom zero text at = []
+wordsFrom (suc n) text at =
+    let w = nextWord text at in
+    let further = wordsFrom n text (w .end) in
+    cond (eqb (w .first) (w .end)) [] (bytesOf text w ∷ further)
+
+-- all words of a text
+unfoldable pub allWords : List ℕ → List (List ℕ)
+allWords text = wordsFrom (length text) text 0

@@ -10,10 +10,11 @@ use crate::number::read_hex_word;
 use crate::number::read_number;
 use crate::word::Word;
 use crate::word::next_word;
+use crate::word::same_bytes;
 ghost use mathlib.Core.Path.{_≡_};
 ghost use Prim.Native.Nat.{suc, min};
 ghost use Rattle.text.specs.Words.{bytesOf};
-ghost use Rattle.text.specs.Cursor.{passed, numberTaken, floatTaken, takeNumber, refused, takeCount, takeHexWord, takeFloat, takeKeyword, takeSlice, atEnd};
+ghost use Rattle.text.specs.Cursor.{passed, numberTaken, floatTaken, takeNumber, refused, takeCount, takeHexWord, takeFloat, takeKeyword, takeSlice, takeIf, atEnd};
 
 // Where reading stands: the place behind the words that were read, and how many they are, up to 4,294,967,295. Where the last of them could not be
 // read, nothing more is read.
@@ -36,6 +37,11 @@ pub struct TakenFloat {
 pub struct TakenKeyword {
     pub cursor: Cursor,
     pub value: Keyword,
+}
+
+pub struct TakenWord {
+    pub cursor: Cursor,
+    pub found: bool,
 }
 
 pub struct TakenSlice {
@@ -213,6 +219,29 @@ pub fn take_slice(text: &[u8], c: Cursor) -> TakenSlice
     TakenSlice {
         cursor: pass(c, w, false),
         value: read_slice(word_bytes(text, w)),
+    }
+}
+
+// Past the next word where it is the given one.
+pub fn take_if(text: &[u8], c: Cursor, word: &[u8]) -> TakenWord
+    ensures { λ r. ⌜ r ≡ takeIf (now (text .entry)) (now (word .entry)) c ⌝ }
+{
+    if c.bad {
+        return TakenWord {
+            cursor: c,
+            found: false,
+        };
+    }
+    let w = next_word(text, c.at);
+    if same_bytes(word_bytes(text, w), word) {
+        return TakenWord {
+            cursor: pass(c, w, false),
+            found: true,
+        };
+    }
+    TakenWord {
+        cursor: c,
+        found: false,
     }
 }
 
