@@ -6,11 +6,11 @@ use mathlib.Core.Logic.{⊎-elim}
 use Prim.Native.Nat.{ℕ, zero, suc, _<_, _≤_}
 use native.Mathlib.Nat.{not-suc-le-zero, le-of-suc-le-suc, eq-or-lt-of-le}
 use native.Mathlib.Omega.{arith}
-use lib.Dec.{T}
+use lib.Dec.{T, T-not}
 use lib.ListN.{getD}
 use lib.Ieee.{Float, nan, inf, le, lt, isNan}
 use Rattle.lists.proofs.Loops.{clash}
-use Rattle.binary64.proofs.Order.{taken, missed, le-right, le-refl, le-trans, highest, lt→le, not-lt→le, lt-of-lt-of-le}
+use Rattle.binary64.proofs.Order.{taken, missed, le-right, le-refl, le-trans, highest, lt→le, lt→not-le, not-lt→le, lt-of-lt-of-le}
 use Rattle.routing.specs.declared.search.Pick.{Pick}
 use Rattle.routing.specs.declared.search.Pick.the-variants.{At, Nothing}
 use Rattle.routing.specs.Search.{costOf, better, pickOf, Within}
@@ -24,7 +24,11 @@ abbrev Finite : List Float → Pick → Type 0
 Finite costs (At j) = T (lt (getD costs j nan) (inf false))
 Finite costs Nothing = Unit {0}
 
-below-finite : (x c : Float) → T (lt x c) → T (lt x (inf false))
+-- a cannot be below b, and b at most a
+pub never : (a b : Float) → T (lt a b) → T (le b a) → ⊥
+never a b h k = T-not (le b a) (lt→not-le a b h) k
+
+pub below-finite : (x c : Float) → T (lt x c) → T (lt x (inf false))
 below-finite x c h = lt-of-lt-of-le x c (inf false) h (highest c (le-right x c (lt→le x c h)))
 
 chosen-finite : (costs : List Float) (p : Pick) (k : ℕ) (m t : Bool) → lt (getD costs k nan) (costOf costs p) ≡ t → Finite costs p → Finite costs (chosen p k m t)

@@ -7,6 +7,7 @@ pub mod Kept
 pub mod WalkCosts
 pub mod Relaxing
 pub mod LeastPick
+pub mod Leaders
 pub mod Traces
 pub mod Settling
 pub mod Ends

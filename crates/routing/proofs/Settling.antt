@@ -7,13 +7,13 @@ use mathlib.Core.Logic.{_⊎_, inl, inr, ⊎-elim}
 use Prim.Native.Nat.{ℕ, suc, _+_, _*_, _/_, _<_, _≤_}
 use native.Mathlib.Decide.{ℕ-discrete}
 use native.Mathlib.Omega.{arith}
-use lib.Dec.{T, T-not}
+use lib.Dec.{T}
 use lib.ListN.{length, getD, set, length-set}
 use lib.Seq.{getD-set-same, getD-set-other}
 use lib.Ieee.{Float, inf, binary64, add, le, lt, isNan}
 use Rattle.lists.proofs.Loops.{two, clash}
 use Rattle.binary64.specs.Values.{pzero}
-use Rattle.binary64.proofs.Order.{le-refl, le-trans, lt→not-le}
+use Rattle.binary64.proofs.Order.{le-refl, le-trans}
 use Rattle.binary64.proofs.Sum.{clear-number}
 use Rattle.binary64.proofs.Costs.{clear-le}
 use Rattle.routing.specs.declared.search.Pick.{Pick}
@@ -26,12 +26,8 @@ use Rattle.routing.proofs.Picks.{picked-open}
 use Rattle.routing.proofs.Turns.{below, one-less}
 use Rattle.routing.proofs.WalkCosts.{Ranged, WalkCost, edge-lands, edge-grows, edge-mono, walk-cost}
 use Rattle.routing.proofs.Relaxing.{costAt, predAt, Ready, Same, Lowered, Relaxes, still-low, relax-relaxes}
-use Rattle.routing.proofs.LeastPick.{picked-finite, picked-least}
+use Rattle.routing.proofs.LeastPick.{never, picked-finite, picked-least}
 use Rattle.routing.proofs.Traces.{Trace, further, trace-kept}
-
--- a cannot be below b, and b at most a
-pub never : (a b : Float) → T (lt a b) → T (le b a) → ⊥
-never a b h k = T-not (le b a) (lt→not-le a b h) k
 
 abbrev pub isSettled : Search → ℕ → Bool
 isSettled q x = getD (q .marks) x false

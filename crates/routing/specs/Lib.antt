@@ -2,6 +2,7 @@
 pub mod Network
 pub mod Walks
 pub mod Search
+pub mod Blocks
 pub mod Sound
 pub mod Route
 pub mod Triple

@@ -1,4 +1,5 @@
 // Routing: the network and its checks, the cheapest route between two sides, and consistent triples of elements.
+mod blocks;
 mod link;
 pub mod network;
 pub mod route;

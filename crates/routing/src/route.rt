@@ -1,4 +1,5 @@
 // The cheapest route between two sides of the network: its cost, and its states.
+use crate::blocks::no_blocks;
 use crate::link::node_of;
 use crate::link::wide;
 use crate::network::Checked;
@@ -63,11 +64,14 @@ fn distance_between(
     let mut costs = no_costs();
     let mut preds = no_preds();
     let mut marks = no_marks();
+    let mut blocks = no_blocks();
     costs[2 * start] = 0.0;
+    blocks[start / 32] = 2 * (start % 32);
     let end = find(
         &mut costs,
         &mut preds,
         &mut marks,
+        &mut blocks,
         lengths,
         from,
         to,
@@ -242,11 +246,14 @@ fn states_between(
     let mut costs = no_costs();
     let mut preds = no_preds();
     let mut marks = no_marks();
+    let mut blocks = no_blocks();
     costs[2 * start] = 0.0;
+    blocks[start / 32] = 2 * (start % 32);
     let end = find(
         &mut costs,
         &mut preds,
         &mut marks,
+        &mut blocks,
         lengths,
         from,
         to,

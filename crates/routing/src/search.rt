@@ -1,4 +1,6 @@
 // The search for a route, over tables of four states per element.
+use crate::blocks::lead;
+use crate::blocks::mark_state;
 use crate::link::Link;
 use crate::link::Relation;
 use crate::link::link_ahead;
@@ -11,6 +13,7 @@ ghost use lib.ListN.{length};
 ghost use Rattle.routing.specs.Network.{graphOf, relationsOf, count};
 ghost use Rattle.routing.specs.Sound.{Even, Narrow, Sound, Sides, Lands, Room};
 ghost use Rattle.routing.specs.Walks.{opposite};
+ghost use Rattle.routing.specs.Blocks.{Blocks};
 ghost use Rattle.routing.specs.Search.{Within, costOf, better, pickOf, tables, lower, follow, followBoth, relaxExternal, settled, searchOf, endedAt, left, run, noCosts, noPreds, noMarks};
 
 pub enum Pick {
@@ -51,7 +54,7 @@ fn cost_of(costs: &[f64], best: Pick) -> f64
 // The better of the best so far and the state i.
 fn better_of(costs: &[f64], marks: &[bool], best: Pick, i: usize) -> Pick
     requires { ⌜ (i < length (now costs)) × (i < length (now marks)) ⌝ }
-    requires { ⌜ Within i best ⌝ }
+    requires { ⌜ Within (length (now costs)) best ⌝ }
     ensures { λ r. ⌜ r ≡ better (now (costs .entry)) (now (marks .entry)) best i ⌝ }
 {
     if marks[i] {
@@ -64,39 +67,76 @@ fn better_of(costs: &[f64], marks: &[bool], best: Pick, i: usize) -> Pick
     }
 }
 
-// The unsettled state of least cost among the first `states`, the lowest number among equals.
-fn next_state(costs: &[f64], marks: &[bool], states: usize) -> Pick
+// The unsettled state of least cost among the first `states`, the lowest number among equals: the best of the blocks' leaders.
+fn next_state(costs: &[f64], marks: &[bool], blocks: &[usize], states: usize) -> Pick
     requires { ⌜ (states ≤ length (now costs)) × (states ≤ length (now marks)) ⌝ }
+    requires { ⌜ Blocks states (now costs) (now marks) (now blocks) ⌝ }
     ensures { λ r. ⌜ r ≡ pickOf (now (costs .entry)) (now (marks .entry)) states ⌝ }
 {
     let mut best = Pick::Nothing;
-    for i in 0..states {
-        best = better_of(costs, marks, best, i);
+    let mut b = 0;
+    while 64 * b < states {
+        best = better_of(costs, marks, best, 64 * b + blocks[b]);
+        b += 1;
     }
     best
 }
 
 // A state is reached from another at a cost, which counts only where it is strictly lower.
-fn lower_state(costs: &mut [f64], preds: &mut [u32], from: usize, to: usize, cost: f64)
-    requires { ⌜ (to < length (now costs)) × (to < length (now preds)) ⌝ }
-    requires { ⌜ from < 4096 ⌝ }
+fn lower_state(
+    costs: &mut [f64],
+    preds: &mut [u32],
+    marks: &[bool],
+    blocks: &mut [usize],
+    elements: usize,
+    from: usize,
+    to: usize,
+    cost: f64,
+)
+    requires { ⌜ (from < 4096) × (to < 4 * elements) ⌝ }
+    requires { ⌜ Room elements (searchOf (now costs) (now preds) (now marks)) ⌝ }
+    requires { ⌜ Blocks (4 * elements) (now costs) (now marks) (now blocks) ⌝ }
     ensures { λ _. ⌜ tables (now (costs .exit)) (now (preds .exit)) ≡ lower from to cost (tables (now (costs .entry)) (now (preds .entry))) ⌝ }
+    ensures { λ _. ⌜ Blocks (4 * elements) (now (costs .exit)) (now (marks .entry)) (now (blocks .exit)) ⌝ }
 {
     if cost < costs[to] {
         costs[to] = cost;
         preds[to] = from as u32;
+        let b = to / 64;
+        blocks[b] = lead(costs, marks, 64 * b + blocks[b], to) - 64 * b;
     }
 }
 
 // A link is followed from node v, which costs d, where it is passable and starts there.
-fn follow_link(costs: &mut [f64], preds: &mut [u32], v: usize, d: f64, l: Link)
+fn follow_link(
+    costs: &mut [f64],
+    preds: &mut [u32],
+    marks: &[bool],
+    blocks: &mut [usize],
+    elements: usize,
+    v: usize,
+    d: f64,
+    l: Link,
+)
     requires { ⌜ v < 2048 ⌝ }
-    requires { ⌜ Lands (length (now costs)) l × Lands (length (now preds)) l ⌝ }
+    requires { ⌜ Lands (4 * elements) l ⌝ }
+    requires { ⌜ Room elements (searchOf (now costs) (now preds) (now marks)) ⌝ }
+    requires { ⌜ Blocks (4 * elements) (now costs) (now marks) (now blocks) ⌝ }
     ensures { λ _. ⌜ tables (now (costs .exit)) (now (preds .exit)) ≡ follow v d l (tables (now (costs .entry)) (now (preds .entry))) ⌝ }
+    ensures { λ _. ⌜ Blocks (4 * elements) (now (costs .exit)) (now (marks .entry)) (now (blocks .exit)) ⌝ }
 {
     if l.passable {
         if l.from == v {
-            lower_state(costs, preds, 2 * v, 2 * l.to + 1, d + 0.0);
+            lower_state(
+                costs,
+                preds,
+                marks,
+                blocks,
+                elements,
+                2 * v,
+                2 * l.to + 1,
+                d + 0.0,
+            );
         }
     }
 }
@@ -105,25 +145,48 @@ fn follow_link(costs: &mut [f64], preds: &mut [u32], v: usize, d: f64, l: Link)
 fn follow_relation(
     costs: &mut [f64],
     preds: &mut [u32],
+    marks: &[bool],
+    blocks: &mut [usize],
     elements: usize,
     v: usize,
     d: f64,
     r: Relation,
 )
     requires { ⌜ v < 2048 ⌝ }
-    requires { ⌜ Narrow r ⌝ }
-    requires { ⌜ Sides r ⌝ }
-    requires { ⌜ (4 * elements ≤ length (now costs)) × (4 * elements ≤ length (now preds)) ⌝ }
+    requires { ⌜ Narrow r × Sides r ⌝ }
+    requires { ⌜ Room elements (searchOf (now costs) (now preds) (now marks)) ⌝ }
+    requires { ⌜ Blocks (4 * elements) (now costs) (now marks) (now blocks) ⌝ }
     ensures { λ _. ⌜ tables (now (costs .exit)) (now (preds .exit)) ≡ followBoth elements v d r (tables (now (costs .entry)) (now (preds .entry))) ⌝ }
+    ensures { λ _. ⌜ Blocks (4 * elements) (now (costs .exit)) (now (marks .entry)) (now (blocks .exit)) ⌝ }
 {
-    follow_link(costs, preds, v, d, link_ahead(elements, r));
-    follow_link(costs, preds, v, d, link_behind(elements, r));
+    follow_link(
+        costs,
+        preds,
+        marks,
+        blocks,
+        elements,
+        v,
+        d,
+        link_ahead(elements, r),
+    );
+    follow_link(
+        costs,
+        preds,
+        marks,
+        blocks,
+        elements,
+        v,
+        d,
+        link_behind(elements, r),
+    );
 }
 
 // All external edges out of node v, in the relations' order.
 fn relax_external(
     costs: &mut [f64],
     preds: &mut [u32],
+    marks: &[bool],
+    blocks: &mut [usize],
     elements: usize,
     from: &[u32],
     to: &[u32],
@@ -136,12 +199,14 @@ fn relax_external(
 )
     requires { ⌜ v < 2048 ⌝ }
     requires { ⌜ Even (relationsOf (now from) (now to) (now «from_side») (now «to_side») (now forward) (now backward)) ⌝ }
-    requires { ⌜ (4 * elements ≤ length (now costs)) × (4 * elements ≤ length (now preds)) ⌝ }
+    requires { ⌜ Room elements (searchOf (now costs) (now preds) (now marks)) ⌝ }
+    requires { ⌜ Blocks (4 * elements) (now costs) (now marks) (now blocks) ⌝ }
     ensures { λ _. ⌜ tables (now (costs .exit)) (now (preds .exit)) ≡ relaxExternal elements (relationsOf (now (from .entry)) (now (to .entry)) (now («from_side» .entry)) (now («to_side» .entry)) (now (forward .entry)) (now (backward .entry))) v d (tables (now (costs .entry)) (now (preds .entry))) ⌝ }
+    ensures { λ _. ⌜ Blocks (4 * elements) (now (costs .exit)) (now (marks .entry)) (now (blocks .exit)) ⌝ }
 {
     for k in 0..from.len() {
         let r = relation_at(from, to, from_side, to_side, forward, backward, k);
-        follow_relation(costs, preds, elements, v, d, r);
+        follow_relation(costs, preds, marks, blocks, elements, v, d, r);
     }
 }
 
@@ -158,6 +223,7 @@ pub fn settle(
     costs: &mut [f64],
     preds: &mut [u32],
     marks: &mut [bool],
+    blocks: &mut [usize],
     lengths: &[f64],
     from: &[u32],
     to: &[u32],
@@ -169,17 +235,32 @@ pub fn settle(
 )
     requires { ⌜ Sound (graphOf (now lengths) (now from) (now to) (now «from_side») (now «to_side») (now forward) (now backward)) ⌝ }
     requires { ⌜ Room (length (now lengths)) (searchOf (now costs) (now preds) (now marks)) ⌝ }
+    requires { ⌜ Blocks (4 * length (now lengths)) (now costs) (now marks) (now blocks) ⌝ }
     requires { ⌜ s < 4 * length (now lengths) ⌝ }
     ensures { λ _. ⌜ searchOf (now (costs .exit)) (now (preds .exit)) (now (marks .exit)) ≡ settled (graphOf (now (lengths .entry)) (now (from .entry)) (now (to .entry)) (now («from_side» .entry)) (now («to_side» .entry)) (now (forward .entry)) (now (backward .entry))) s (searchOf (now (costs .entry)) (now (preds .entry)) (now (marks .entry))) ⌝ }
+    ensures { λ _. ⌜ Blocks (4 * length (now (lengths .entry))) (now (costs .exit)) (now (marks .exit)) (now (blocks .exit)) ⌝ }
 {
-    marks[s] = true;
+    let n = lengths.len();
+    mark_state(costs, marks, blocks, 4 * n, s);
     let d = costs[s];
-    lower_state(costs, preds, s, 2 * opposite_of(s / 2), d + lengths[s / 4]);
+    let inner = d + lengths[s / 4];
+    lower_state(
+        costs,
+        preds,
+        marks,
+        blocks,
+        n,
+        s,
+        2 * opposite_of(s / 2),
+        inner,
+    );
     if s % 2 == 0 {
         relax_external(
             costs,
             preds,
-            lengths.len(),
+            marks,
+            blocks,
+            n,
             from,
             to,
             from_side,
@@ -197,6 +278,7 @@ pub fn find(
     costs: &mut [f64],
     preds: &mut [u32],
     marks: &mut [bool],
+    blocks: &mut [usize],
     lengths: &[f64],
     from: &[u32],
     to: &[u32],
@@ -208,10 +290,11 @@ pub fn find(
 ) -> Pick
     requires { ⌜ Sound (graphOf (now lengths) (now from) (now to) (now «from_side») (now «to_side») (now forward) (now backward)) ⌝ }
     requires { ⌜ Room (length (now lengths)) (searchOf (now costs) (now preds) (now marks)) ⌝ }
+    requires { ⌜ Blocks (4 * length (now lengths)) (now costs) (now marks) (now blocks) ⌝ }
     ensures { λ r. ⌜ endedAt r (searchOf (now (costs .exit)) (now (preds .exit)) (now (marks .exit))) ≡ run (graphOf (now (lengths .entry)) (now (from .entry)) (now (to .entry)) (now («from_side» .entry)) (now («to_side» .entry)) (now (forward .entry)) (now (backward .entry))) goal (left (now (marks .entry)) (4 * length (now (lengths .entry)))) (searchOf (now (costs .entry)) (now (preds .entry)) (now (marks .entry))) ⌝ }
 {
     loop {
-        let picked = next_state(costs, marks, 4 * lengths.len());
+        let picked = next_state(costs, marks, blocks, 4 * lengths.len());
         match picked {
             Pick::At(s) => {
                 if s / 2 == goal {
@@ -221,6 +304,7 @@ pub fn find(
                     costs,
                     preds,
                     marks,
+                    blocks,
                     lengths,
                     from,
                     to,

@@ -1,33 +1,52 @@
 -- `routing::search::next_state` meets its contract. Assumes nothing.
 use mathlib.Core.Path.{_≡_, refl, ap, _∙_}
-use Prim.Native.Nat.{_≤_, _-_}
+use Prim.Native.Nat.{_+_, _-_, _*_, _<_, min}
 use native.Mathlib.Omega.{arith}
-use Rattle.routing.specs.Search.{better, pickOf}
-use Rattle.routing.proofs.Picks.{pick-within, pick-more}
+use Rattle.routing.specs.Search.{pickOf}
+use Rattle.routing.specs.Blocks.{leaderOf, blockEnd}
 use Rattle.routing.proofs.search.next_state.Statement.{statement}
 use Rattle.routing.proofs.search.next_state.Tie as tie
+use Rattle.routing.proofs.Picks.{within-more, pick-within}
+use Rattle.routing.proofs.Leaders.{pick-turn}
 
 abbrev Inv-loop : tie.InvT-loop
-Inv-loop costs marks states best₀ i₀ best i = (i ≤ states) × (best ≡ pickOf costs marks i)
+Inv-loop costs marks blocks states best₀ b₀ best b = (64 * b < states + 64) × (best ≡ pickOf costs marks (min (64 * b) states))
 
 abbrev μ-loop : tie.MeasureT-loop
-μ-loop costs marks states best₀ i₀ best i = states - i
+μ-loop costs marks blocks states best₀ b₀ best b = states - 64 * b
 
 loop-holds : tie.Need-loop-holds Inv-loop μ-loop
 unfolding pickOf
-loop-holds c = (omega arith, refl)
+loop-holds c = (omega arith, (let z : min (64 * 0) (c .before .before .before .args .states) ≡ 0 = omega arith in rw z refl))
+
+mul-loop : tie.Need-mul-loop Inv-loop μ-loop
+mul-loop c = omega arith
+
+mul-better-of : tie.Need-mul-better-of Inv-loop μ-loop
+mul-better-of c = omega arith
+
+mul-better-of-2 : tie.Need-mul-better-of-2 Inv-loop μ-loop
+mul-better-of-2 c = omega (arith, c .before .before .before .before .before .pre .1 .room)
+
+shared-slice-read-better-of : tie.Need-shared-slice-read-better-of Inv-loop μ-loop
+shared-slice-read-better-of c = omega (arith, c .before .before .before .before .before .before .pre .1 .room)
+
+add-better-of : tie.Need-add-better-of Inv-loop μ-loop
+unfolding leaderOf blockEnd
+add-better-of c = omega (arith, c .before .before .before .before .before .before .pre .1 .within (c .before .before .loop .b) (c .before .loop-test .taken))
 
 better-of-requires : tie.Need-better-of-requires Inv-loop μ-loop
-better-of-requires c κs = ((omega arith, omega arith), rw (c .before .loop .inv .1) (pick-within _ _ _))
+unfolding leaderOf blockEnd
+better-of-requires c κs = (let w = c .before .before .before .before .before .before .pre .1 .within (c .before .before .loop .b) (c .before .loop-test .taken) in (omega arith, omega arith), rw (c .before .before .loop .inv .1) (within-more (pickOf _ _ _) _ _ (omega arith) (pick-within _ _ _)))
 
-add-i : tie.Need-add-i Inv-loop μ-loop
-add-i c = omega arith
+add-b : tie.Need-add-b Inv-loop μ-loop
+add-b c = omega arith
 
 loop-less : tie.Need-loop-less Inv-loop μ-loop
 loop-less c = omega arith
 
 loop-again : tie.Need-loop-again Inv-loop μ-loop
-loop-again c = (omega arith, c .better-of .ensures ∙ rw (c .before .before .loop .inv .1) (pick-more _ _ _))
+loop-again c = (omega arith, pick-turn _ _ _ _ (c .before .before .before .before .before .before .before .pre .1) _ (c .before .before .loop-test .taken) (c .before .before .before .loop .inv .1) (c .better-of .ensures))
 
 returns : tie.Need-returns Inv-loop μ-loop
 returns c = c .before .loop .inv .1 ∙ ap (pickOf _ _) (omega arith)
@@ -35,4 +54,17 @@ returns c = c .before .loop .inv .1 ∙ ap (pickOf _ _) (omega arith)
 pub next-state-spec : {M : Type 1} → statement M
 next-state-spec =
     tie.close
-    (tie.spec Inv-loop μ-loop loop-holds better-of-requires add-i loop-less loop-again returns)
+    (tie.spec
+    Inv-loop
+    μ-loop
+    loop-holds
+    mul-loop
+    mul-better-of
+    mul-better-of-2
+    shared-slice-read-better-of
+    add-better-of
+    better-of-requires
+    add-b
+    loop-less
+    loop-again
+    returns)

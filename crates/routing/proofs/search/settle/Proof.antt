@@ -1,83 +1,92 @@
 -- `routing::search::settle` meets its contract. Assumes nothing.
-use mathlib.Core.Path.{subst, sym}
-use Prim.Native.Nat.{_*_, _<_}
+use mathlib.Core.Path.{refl, _∙_}
 use native.Mathlib.Omega.{arith}
-use lib.ListN.{length}
-use borrow.Author.Needs.{needs}
-use Rattle.routing.proofs.Turns.{settled-odd, settled-even}
-use Rattle.routing.proofs.Links.{opposite-lands}
 use Rattle.routing.proofs.search.settle.Statement.{statement}
 use Rattle.routing.proofs.search.settle.Tie as tie
+use Rattle.routing.proofs.Turns.{settled-odd, settled-even, room-same}
+use Rattle.routing.proofs.Links.{opposite-lands}
 
-slice-write-marks : tie.Need-slice-write-marks
-slice-write-marks c = search needs
+mul-mark-state : tie.Need-mul-mark-state
+mul-mark-state c = omega (arith, c .before .before .before .before .before .before .before .before .before .before .before .before .before .before .pre .0 .few)
+
+mark-state-requires : tie.Need-mark-state-requires
+mark-state-requires c κs = (c .before .before .before .before .before .before .before .before .before .before .before .before .before .before .pre .1 .1 .1, ((c .before .before .before .before .before .before .before .before .before .before .before .before .before .before .pre .1 .0 .costs, c .before .before .before .before .before .before .before .before .before .before .before .before .before .before .pre .1 .0 .marks), c .before .before .before .before .before .before .before .before .before .before .before .before .before .before .pre .1 .1 .0))
 
 mul-d : tie.Need-mul-d
-mul-d c = search needs
+mul-d c = omega (arith, c .before .before .before .before .before .before .before .before .before .before .before .before .before .before .before .before .before .before .before .pre .1 .1 .1, c .before .before .before .before .before .before .before .before .before .before .before .before .before .before .before .before .before .before .before .pre .0 .few)
 
 slice-read-d : tie.Need-slice-read-d
-slice-read-d c = search needs
+slice-read-d c = omega (arith, c .before .before .before .before .before .before .before .before .before .before .before .before .before .before .before .before .before .before .before .before .pre .1 .1 .1, c .before .before .before .before .before .before .before .before .before .before .before .before .before .before .before .before .before .before .before .before .pre .1 .0 .costs)
+
+mul-inner : tie.Need-mul-inner
+mul-inner c = omega (arith, c .before .before .before .before .before .before .before .before .before .before .before .before .before .before .before .before .before .before .before .before .pre .1 .1 .1, c .before .before .before .before .before .before .before .before .before .before .before .before .before .before .before .before .before .before .before .before .pre .0 .few)
+
+shared-slice-read-inner : tie.Need-shared-slice-read-inner
+shared-slice-read-inner c = omega (arith, c .before .before .before .before .before .before .before .before .before .before .before .before .before .before .before .before .before .before .before .before .before .pre .1 .1 .1)
 
 opposite-of-requires : tie.Need-opposite-of-requires
-opposite-of-requires c κs = search needs
+opposite-of-requires c κs = omega (arith, c .before .before .before .before .before .before .before .before .before .before .before .before .before .before .before .before .before .before .before .before .before .before .before .before .before .pre .1 .1 .1, c .before .before .before .before .before .before .before .before .before .before .before .before .before .before .before .before .before .before .before .before .before .before .before .before .before .pre .0 .few)
 
 mul-lower-state : tie.Need-mul-lower-state
-mul-lower-state c = rw (c .opposite-of .ensures) (omega (arith, opposite-lands _ _ (c .before .before .before .before .before .before .before .before .before .before .before .before .before .before .pre .1 .1), c .before .before .before .before .before .before .before .before .before .before .before .before .before .before .pre .0 .few))
-
-mul-lower-state-2 : tie.Need-mul-lower-state-2
-mul-lower-state-2 c = search needs
-
-shared-slice-read-lower-state : tie.Need-shared-slice-read-lower-state
-shared-slice-read-lower-state c = search needs
+mul-lower-state c = rw (c .opposite-of .ensures) (omega (arith, opposite-lands _ _ (c .before .before .before .before .before .before .before .before .before .before .before .before .before .before .before .before .before .before .before .before .before .before .before .before .before .before .pre .1 .1 .1), c .before .before .before .before .before .before .before .before .before .before .before .before .before .before .before .before .before .before .before .before .before .before .before .before .before .before .pre .0 .few))
 
 lower-state-requires : tie.Need-lower-state-requires
-lower-state-requires c κs = rw (c .before .opposite-of .ensures) ((omega (arith, opposite-lands _ _ (c .before .before .before .before .before .before .before .before .before .before .before .before .before .before .before .pre .1 .1), c .before .before .before .before .before .before .before .before .before .before .before .before .before .before .before .pre .1 .0 .costs), omega (arith, opposite-lands _ _ (c .before .before .before .before .before .before .before .before .before .before .before .before .before .before .before .pre .1 .1), c .before .before .before .before .before .before .before .before .before .before .before .before .before .before .before .pre .1 .0 .preds)), omega (arith, c .before .before .before .before .before .before .before .before .before .before .before .before .before .before .before .pre .1 .1, c .before .before .before .before .before .before .before .before .before .before .before .before .before .before .before .pre .0 .few))
+lower-state-requires c κs = rw (c .opposite-of .ensures) ((omega (arith, c .before .before .before .before .before .before .before .before .before .before .before .before .before .before .before .before .before .before .before .before .before .before .before .before .before .before .pre .1 .1 .1, c .before .before .before .before .before .before .before .before .before .before .before .before .before .before .before .before .before .before .before .before .before .before .before .before .before .before .pre .0 .few), opposite-lands _ _ (c .before .before .before .before .before .before .before .before .before .before .before .before .before .before .before .before .before .before .before .before .before .before .before .before .before .before .pre .1 .1 .1)), (room-same _ _ _ (c .before .before .before .before .before .before .before .before .before .before .before .before .before .before .before .before .before .before .before .before .before .before .before .before .before .before .pre .1 .0) refl refl (c .before .before .before .before .before .before .before .before .before .before .marks .given), c .before .before .before .before .before .before .before .before .before .before .before .mark-state .ensures .1))
 
 relax-external-requires : tie.Need-relax-external-requires
-relax-external-requires c κs = (omega (arith, c .before .before .before .before .before .before .before .before .before .before .before .before .before .before .before .before .before .before .before .before .before .before .before .pre .1 .1, c .before .before .before .before .before .before .before .before .before .before .before .before .before .before .before .before .before .before .before .before .before .before .before .pre .0 .few), (c .before .before .before .before .before .before .before .before .before .before .before .before .before .before .before .before .before .before .before .before .before .before .before .pre .0 .relations, (omega (arith, c .before .before .before .before .before .before .costs .given, c .before .before .before .before .before .before .before .before .before .before .before .before .before .before .before .before .before .before .before .before .before .before .before .pre .1 .0 .costs), omega (arith, c .before .before .before .before .preds .given, c .before .before .before .before .before .before .before .before .before .before .before .before .before .before .before .before .before .before .before .before .before .before .before .pre .1 .0 .preds))))
+relax-external-requires c κs = (omega (arith, c .before .before .before .before .before .before .before .before .before .before .before .before .before .before .before .before .before .before .before .before .before .before .before .before .before .before .before .before .before .before .before .before .before .before .before .before .before .before .pre .1 .1 .1, c .before .before .before .before .before .before .before .before .before .before .before .before .before .before .before .before .before .before .before .before .before .before .before .before .before .before .before .before .before .before .before .before .before .before .before .before .before .before .pre .0 .few), (c .before .before .before .before .before .before .before .before .before .before .before .before .before .before .before .before .before .before .before .before .before .before .before .before .before .before .before .before .before .before .before .before .before .before .before .before .before .before .pre .0 .relations, (room-same _ _ _ (c .before .before .before .before .before .before .before .before .before .before .before .before .before .before .before .before .before .before .before .before .before .before .before .before .before .before .before .before .before .before .before .before .before .before .before .before .before .before .pre .1 .0) (c .before .before .before .before .before .before .before .before .before .before .costs .given) (c .before .before .before .before .before .before .before .before .preds .given) (c .before .before .before .before .before .before .before .before .before .before .before .before .before .before .before .before .before .before .before .before .before .before .marks .given), c .before .before .before .before .before .before .before .before .before .before .before .lower-state .ensures .1)))
 
 same-length : tie.Need-same-length
-same-length c = search needs
+same-length c = c .before .before .before .before .before .costs2 .given ∙ c .before .before .before .before .before .before .before .before .before .before .before .before .before .before .before .before .before .costs .given
 
 same-length-2 : tie.Need-same-length-2
-same-length-2 c = search needs
+same-length-2 c = c .before .before .before .preds2 .given ∙ c .before .before .before .before .before .before .before .before .before .before .before .before .before .before .before .preds .given
 
 same-length-3 : tie.Need-same-length-3
-same-length-3 c = search needs
-
-returns : tie.Need-returns
-returns c = settled-even _ _ _ (c .before .before .before .before .before .before .before .before .before .before .before .before .before .before .opposite-of .ensures) (c .before .before .before .before .before .before .before .before .before .before .before .before .lower-state .ensures) (c .before .before .before .before .before .before .before .if1 .taken) (c .before .before .before .before .relax-external .ensures)
+same-length-3 c = c .before .before .before .before .before .before .before .before .before .before .before .before .before .before .before .before .before .before .before .before .before .before .before .before .before .before .before .before .before .marks .given
 
 same-length-4 : tie.Need-same-length-4
-same-length-4 c = search needs
+same-length-4 c = c .before .blocks4 .given ∙ c .before .before .before .before .before .before .before .before .before .before .before .before .before .blocks3 .given ∙ c .before .before .before .before .before .before .before .before .before .before .before .before .before .before .before .before .before .before .before .before .before .before .before .before .before .before .before .blocks2 .given
+
+returns : tie.Need-returns
+returns c = (rw (c .before .before .before .before .before .before .before .before .before .before .before .before .before .before .before .before .before .before .before .before .before .before .before .before .before .before .before .before .before .before .mark-state .ensures .0) (settled-even _ _ _ (c .before .before .before .before .before .before .before .before .before .before .before .before .before .before .before .before .before .before .before .opposite-of .ensures) (c .before .before .before .before .before .before .before .before .before .before .before .before .before .before .before .before .before .before .lower-state .ensures .0) (c .before .before .before .before .before .before .before .before .before .before .before .if1 .taken) (c .before .before .before .before .before .before .relax-external .ensures .0)), c .before .before .before .before .before .before .relax-external .ensures .1)
 
 same-length-5 : tie.Need-same-length-5
-same-length-5 c = search needs
+same-length-5 c = c .before .before .before .before .before .before .costs .given
 
 same-length-6 : tie.Need-same-length-6
-same-length-6 c = search needs
+same-length-6 c = c .before .before .before .before .preds .given
+
+same-length-7 : tie.Need-same-length-7
+same-length-7 c = c .before .before .before .before .before .before .before .before .before .before .before .before .before .before .before .before .before .before .marks .given
+
+same-length-8 : tie.Need-same-length-8
+same-length-8 c = c .before .before .blocks3 .given ∙ c .before .before .before .before .before .before .before .before .before .before .before .before .before .before .before .before .blocks2 .given
 
 returns-2 : tie.Need-returns-2
-returns-2 c = settled-odd _ _ _ (c .before .before .before .before .before .before .before .opposite-of .ensures) (c .before .before .before .before .before .lower-state .ensures) (c .if1 .left)
+returns-2 c = (rw (c .before .before .before .before .before .before .before .before .before .before .before .before .before .before .before .before .before .before .before .mark-state .ensures .0) (settled-odd _ _ _ (c .before .before .before .before .before .before .before .before .opposite-of .ensures) (c .before .before .before .before .before .before .before .lower-state .ensures .0) (c .if1 .left)), c .before .before .before .before .before .before .before .lower-state .ensures .1)
 
 pub settle-spec : {M : Type 1} → statement M
 settle-spec =
     tie.close
     (tie.spec
-    slice-write-marks
+    mul-mark-state
+    mark-state-requires
     mul-d
     slice-read-d
+    mul-inner
+    shared-slice-read-inner
     opposite-of-requires
     mul-lower-state
-    mul-lower-state-2
-    shared-slice-read-lower-state
     lower-state-requires
     relax-external-requires
     same-length
     same-length-2
     same-length-3
-    returns
     same-length-4
+    returns
     same-length-5
     same-length-6
+    same-length-7
+    same-length-8
     returns-2)
