@@ -20,6 +20,10 @@ use Rattle.closing.specs.declared.row.RowRead.{RowRead}
 use Rattle.closing.specs.declared.row.RowRead.the-variants.{Row, Refused as RowRefused}
 use Rattle.steps.specs.declared.list.StepsListed.{StepsListed}
 use Rattle.steps.specs.declared.list.StepsListed.the-variants.{Listed as Steps, Refused as StepsRefused}
+use Rattle.segments.specs.declared.build.Built.{Built}
+use Rattle.segments.specs.declared.build.Built.the-variants.{Segments, Refused as BuildRefused}
+use Rattle.segments.specs.declared.collapse.Collapsed.{Collapsed}
+use Rattle.segments.specs.declared.collapse.Collapsed.the-variants.{Done as Collapse, Refused as CollapseRefused}
 
 -- ---- network and routes
 
@@ -108,3 +112,26 @@ stepsStatus (StepsRefused k) = k
 abbrev pub stepsCount : StepsListed → ℕ → ℕ
 stepsCount (Steps n) old = n
 stepsCount (StepsRefused k) old = old
+
+-- ---- segments
+
+abbrev pub builtStatus : Built → ℕ
+builtStatus (Segments n) = 0
+builtStatus (BuildRefused k) = k
+
+abbrev pub builtCount : Built → ℕ → ℕ
+builtCount (Segments n) old = n
+builtCount (BuildRefused k) old = old
+
+abbrev pub collapsedStatus : Collapsed → ℕ
+collapsedStatus (Collapse n m) = 0
+collapsedStatus (CollapseRefused k) = k
+
+-- how many segments are left
+abbrev pub collapsedSegments : Collapsed → ℕ → ℕ
+collapsedSegments (Collapse n m) old = n
+collapsedSegments (CollapseRefused k) old = old
+
+abbrev pub collapsedDecisions : Collapsed → ℕ → ℕ
+collapsedDecisions (Collapse n m) old = m
+collapsedDecisions (CollapseRefused k) old = old

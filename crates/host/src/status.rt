@@ -7,9 +7,11 @@ use routing::route::Distance;
 use routing::route::Listing;
 use routing::route::Route;
 use routing::triple::Consistency;
+use segments::build::Built;
+use segments::collapse::Collapsed;
 use steps::list::StepsListed;
 ghost use mathlib.Core.Path.{_≡_};
-ghost use Rattle.host.specs.Status.{checkedStatus, distanceStatus, distanceCost, listingStatus, listingCost, listingCount, tripleStatus, tripleFlag, answerStatus, closingStatus, closingScore, closingCount, rowStatus, rowCandidates, rowPredecessors, stepsStatus, stepsCount};
+ghost use Rattle.host.specs.Status.{checkedStatus, distanceStatus, distanceCost, listingStatus, listingCost, listingCount, tripleStatus, tripleFlag, answerStatus, closingStatus, closingScore, closingCount, rowStatus, rowCandidates, rowPredecessors, stepsStatus, stepsCount, builtStatus, builtCount, collapsedStatus, collapsedSegments, collapsedDecisions};
 
 // There is no route, or no path.
 const NONE: u32 = 16;
@@ -122,5 +124,36 @@ pub fn of_steps(answer: StepsListed, count: &mut usize) -> u32
             0
         }
         StepsListed::Refused(k) => k,
+    }
+}
+
+pub fn of_built(answer: Built, count: &mut usize) -> u32
+    ensures { λ r. ⌜ r ≡ builtStatus answer ⌝ }
+    ensures { λ _. ⌜ now (count .exit) ≡ builtCount answer (now (count .entry)) ⌝ }
+{
+    match answer {
+        Built::Segments(n) => {
+            *count = n;
+            0
+        }
+        Built::Refused(k) => k,
+    }
+}
+
+pub fn of_collapsed(answer: Collapsed, segments: &mut usize, decisions: &mut usize) -> u32
+    ensures { λ r. ⌜ r ≡ collapsedStatus answer ⌝ }
+    ensures { λ _. ⌜ now (segments .exit) ≡ collapsedSegments answer (now (segments .entry)) ⌝ }
+    ensures { λ _. ⌜ now (decisions .exit) ≡ collapsedDecisions answer (now (decisions .entry)) ⌝ }
+{
+    match answer {
+        Collapsed::Done {
+            segments: n,
+            decisions: m,
+        } => {
+            *segments = n;
+            *decisions = m;
+            0
+        }
+        Collapsed::Refused(k) => k,
     }
 }
