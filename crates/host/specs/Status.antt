@@ -128,10 +128,10 @@ collapsedStatus (Collapse n m) = 0
 collapsedStatus (CollapseRefused k) = k
 
 -- how many segments are left
-abbrev pub collapsedSegments : Collapsed → ℕ → ℕ
-collapsedSegments (Collapse n m) old = n
-collapsedSegments (CollapseRefused k) old = old
+abbrev pub collapsedLeft : Collapsed → ℕ → ℕ
+collapsedLeft (Collapse n m) old = n
+collapsedLeft (CollapseRefused k) old = old
 
-abbrev pub collapsedDecisions : Collapsed → ℕ → ℕ
-collapsedDecisions (Collapse n m) old = m
-collapsedDecisions (CollapseRefused k) old = old
+abbrev pub collapsedDecided : Collapsed → ℕ → ℕ
+collapsedDecided (Collapse n m) old = m
+collapsedDecided (CollapseRefused k) old = old

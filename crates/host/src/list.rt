@@ -9,7 +9,7 @@ ghost use lib.ListN.{length};
 ghost use Rattle.routing.specs.Network.{networkOf};
 ghost use Rattle.segments.specs.Build.{building, answered, stored};
 ghost use Rattle.segments.specs.Collapse.{collapsing};
-ghost use Rattle.host.specs.Status.{builtStatus, builtCount, collapsedStatus, collapsedSegments, collapsedDecisions};
+ghost use Rattle.host.specs.Status.{builtStatus, builtCount, collapsedStatus, collapsedLeft, collapsedDecided};
 
 // The segments of the best path into the first entries of the list, and their count; or a refusal by checks 1 to 5, 7, 9, or by 15 where the list has fewer
 // entries than there are segments.
@@ -60,8 +60,8 @@ pub extern "C" fn box_remove_oscillations(
     ensures { λ r. ⌜ r ≡ collapsedStatus (collapsing (now (segments .entry)) (now (decisions .entry)) .answer) ⌝ }
     ensures { λ _. ⌜ now (segments .exit) ≡ collapsing (now (segments .entry)) (now (decisions .entry)) .segments ⌝ }
     ensures { λ _. ⌜ now (decisions .exit) ≡ collapsing (now (segments .entry)) (now (decisions .entry)) .decisions ⌝ }
-    ensures { λ _. ⌜ now (left .exit) ≡ collapsedSegments (collapsing (now (segments .entry)) (now (decisions .entry)) .answer) (now (left .entry)) ⌝ }
-    ensures { λ _. ⌜ now (decided .exit) ≡ collapsedDecisions (collapsing (now (segments .entry)) (now (decisions .entry)) .answer) (now (decided .entry)) ⌝ }
+    ensures { λ _. ⌜ now (left .exit) ≡ collapsedLeft (collapsing (now (segments .entry)) (now (decisions .entry)) .answer) (now (left .entry)) ⌝ }
+    ensures { λ _. ⌜ now (decided .exit) ≡ collapsedDecided (collapsing (now (segments .entry)) (now (decisions .entry)) .answer) (now (decided .entry)) ⌝ }
 {
     let answer = remove_oscillations(segments, decisions);
     of_collapsed(answer, left, decided)

@@ -11,7 +11,7 @@ use segments::build::Built;
 use segments::collapse::Collapsed;
 use steps::list::StepsListed;
 ghost use mathlib.Core.Path.{_≡_};
-ghost use Rattle.host.specs.Status.{checkedStatus, distanceStatus, distanceCost, listingStatus, listingCost, listingCount, tripleStatus, tripleFlag, answerStatus, closingStatus, closingScore, closingCount, rowStatus, rowCandidates, rowPredecessors, stepsStatus, stepsCount, builtStatus, builtCount, collapsedStatus, collapsedSegments, collapsedDecisions};
+ghost use Rattle.host.specs.Status.{checkedStatus, distanceStatus, distanceCost, listingStatus, listingCost, listingCount, tripleStatus, tripleFlag, answerStatus, closingStatus, closingScore, closingCount, rowStatus, rowCandidates, rowPredecessors, stepsStatus, stepsCount, builtStatus, builtCount, collapsedStatus, collapsedLeft, collapsedDecided};
 
 // There is no route, or no path.
 const NONE: u32 = 16;
@@ -140,18 +140,18 @@ pub fn of_built(answer: Built, count: &mut usize) -> u32
     }
 }
 
-pub fn of_collapsed(answer: Collapsed, segments: &mut usize, decisions: &mut usize) -> u32
+pub fn of_collapsed(answer: Collapsed, left: &mut usize, decided: &mut usize) -> u32
     ensures { λ r. ⌜ r ≡ collapsedStatus answer ⌝ }
-    ensures { λ _. ⌜ now (segments .exit) ≡ collapsedSegments answer (now (segments .entry)) ⌝ }
-    ensures { λ _. ⌜ now (decisions .exit) ≡ collapsedDecisions answer (now (decisions .entry)) ⌝ }
+    ensures { λ _. ⌜ now (left .exit) ≡ collapsedLeft answer (now (left .entry)) ⌝ }
+    ensures { λ _. ⌜ now (decided .exit) ≡ collapsedDecided answer (now (decided .entry)) ⌝ }
 {
     match answer {
         Collapsed::Done {
-            segments: n,
-            decisions: m,
+            segments,
+            decisions,
         } => {
-            *segments = n;
-            *decisions = m;
+            *left = segments;
+            *decided = decisions;
             0
         }
         Collapsed::Refused(k) => k,
