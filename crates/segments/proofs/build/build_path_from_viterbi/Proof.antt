@@ -61,7 +61,8 @@ use Rattle.segments.specs.declared.build.Building.{Building}
 use Rattle.segments.specs.declared.build.Built.{Built}
 use Rattle.segments.proofs.BuildStoring.{Storing, storing-begin, storing-onward, turn-at, turn-less, storing-turn, storing-end}
 use Rattle.segments.proofs.Slices.{Slices, Rooms, net, journal, shared, valOf, vals, typesAt, copies}
-use Rattle.segments.proofs.Shared.{also, alsoV, alsoL, alsoQ, owns-in, owns-out, toks-in, toks-out, says-both}
+use Rattle.segments.proofs.Shared.{also, alsoV, alsoL, alsoQ, owns-in, owns-out, toks-in, toks-out}
+use Rattle.segments.proofs.Facts.{says-all, _&_, last}
 use Rattle.segments.proofs.Locals.{entry, free-all}
 use Rattle.segments.proofs.segment.Segment as S
 use Rattle.segments.proofs.segment.Segment.Laws as S′
@@ -175,7 +176,7 @@ module _ {M : Type 1} (𝓤 : URA M) (H : Heap 𝓤) (A : Atoms 𝓤) (W : Given
       let done-at : (endOf t ≡ answered (building (net ss) (journal ss) (length xs))) × (l ≡ stored (building (net ss) (journal ss) (length xs)) xs) = storing-end (net ss) (journal ss) xs t l (g .inv) e in
       qed W (‵ (fobs γ (codedHoleys S.the-row .code (heres S.the-row l))) ∷ ‵ (fbor κ (Held S.the-row (length l) b o γ)) ∷ ‵ (flft κ q) ∷ ‵ Lent ∷ raw Toks ∷ []) ∵
       suffices ! _ (ends-at 𝓤 H A f.ended stayed (f.clauses 𝓤 H A at-mem run) W ((κs′, qs′, tt, args xs, vals′), tt) (machE (endOf t)) (endOf t) (tt, (tt, (tt, (tt, (tt, (tt, (tt, (tt, (tt, (tt, (l, tt))))))))))) (tt, (tt, (tt, (tt, (tt, (tt, (tt, (tt, (tt, (tt, (g .long, tt)))))))))))) $
-      says-both ! (done-at .0) (done-at .1) $
+      says-all ! (done-at .0 & last (done-at .1)) $
       move ! (4 ∷ 2 ∷ []) $ use2 W (raw (toks 𝓤 A 11 κs′ qs′)) (toks-in 𝓤 H A W 10 κs qs κ q) $ frame ! $
       fjoin ! $ pureI ! (at-slice S.the-row (xd l) (sliceVal (b, o) (length xs) ∷ [])) (tt, (tt, tt)) (ap (λ (m : ℕ). sliceVal (b, o) m ∷ []) (sym (g .long)), subst (Room S.the-row) (sym (g .long)) gn) $ fjoin ! $
       move ! (1 ∷ 0 ∷ []) $ use2 W (‵ (owns Ts′ (args l) vals′)) (owns-in 𝓤 H A W Ts seg ss vs (xd l) (sliceVal (b, o) (length xs) ∷ [])) $
