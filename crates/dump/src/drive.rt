@@ -153,8 +153,8 @@ fn read_feed(
     journal: &mut [u32],
 ) -> Drive {
     let c = d.cursor;
-    let candidates = take_count(text, c, 20);
-    let apart = take_count(text, candidates.cursor, 400);
+    let candidate_count = take_count(text, c, 20);
+    let distance_count = take_count(text, candidate_count.cursor, 400);
     let mut elements = [0u32; 20];
     let mut intrinsics = [0.0; 20];
     let mut near = [0u32; 20];
@@ -162,14 +162,14 @@ fn read_feed(
     let mut distances = [0.0; 400];
     let c = read_candidates(
         text,
-        apart.cursor,
-        candidates.value,
+        distance_count.cursor,
+        candidate_count.value,
         &mut elements,
         &mut intrinsics,
         &mut near,
         &mut raw_logs,
     );
-    let c = read_distances(text, c, apart.value, &mut distances);
+    let c = read_distances(text, c, distance_count.value, &mut distances);
     let settings = d.settings;
     let next = Drive {
         cursor: c,
@@ -180,8 +180,8 @@ fn read_feed(
     if c.bad {
         return next;
     }
-    let n = candidates.value as usize;
-    let m = apart.value as usize;
+    let n = candidate_count.value as usize;
+    let m = distance_count.value as usize;
     feed_fix(
         next,
         lengths,

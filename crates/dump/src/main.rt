@@ -3,9 +3,6 @@ mod drive;
 mod input;
 mod print;
 
-use text::cursor::Cursor;
-use transition::step::Settings;
-
 fn main() {
     let mut journal = input::journal_words();
     journal::call::open(&mut journal);

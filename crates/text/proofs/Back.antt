@@ -30,7 +30,7 @@ figure-glyph d h = ⊎-elim (λ t. low (ltb-true _ _ t)) (λ t. high (ltb-false 
     low l = rw (lt-ltb d 10 l) (sym (figure-decimal (48 + d) (omega arith) (omega arith)) ∙ omega arith)
 
     high : 10 ≤ d → figure (glyph d) ≡ d
-    high l = rw (le-ltb d 10 l) (sym (figure-letter (55 + d) (omega arith) (omega arith)) ∙ omega arith)
+    high l = rw (le-ltb d 10 l) (sym (figure-letter (65 + (d - 10)) (omega arith) (omega arith)) ∙ omega arith)
 
 digits-written : (base k n : ℕ) → 1 ≤ base → base ≤ 16 → digits base (lastDigits base k n) ≡ true
 unfolding digits lastDigits

@@ -9,3 +9,4 @@ pub mod Written
 pub mod Back
 pub mod Lists
 pub mod Windows
+pub mod Examples

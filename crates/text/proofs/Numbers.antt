@@ -58,7 +58,7 @@ pub figure-between : (b : ℕ) → 57 < b → b < 65 → 16 ≡ figure b
 unfolding figure
 figure-between b h k = rw (le-leb 48 b (omega arith), lt-leb b 57 h, lt-leb 65 b k)
 
-pub figure-letter : (b : ℕ) → 65 ≤ b → b ≤ 70 → b - 55 ≡ figure b
+pub figure-letter : (b : ℕ) → 65 ≤ b → b ≤ 70 → b - 65 + 10 ≡ figure b
 unfolding figure
 figure-letter b h k = rw (le-leb 48 b (omega arith), lt-leb b 57 (omega arith), le-leb 65 b h, le-leb b 70 k)
 

@@ -9,7 +9,7 @@ use Rattle.text.specs.declared.number.Number.the-variants.{Value, Unread
 
 -- what a digit counts: `0` to `9`, then `A` to `F`; 16 for any other byte
 unfoldable pub figure : ℕ → ℕ
-figure b = cond (leb 48 b && leb b 57) (b - 48) (cond (leb 65 b && leb b 70) (b - 55) 16)
+figure b = cond (leb 48 b && leb b 57) (b - 48) (cond (leb 65 b && leb b 70) (b - 65 + 10) 16)
 
 -- every byte is a digit of the base
 unfoldable pub digits : ℕ → List ℕ → Bool

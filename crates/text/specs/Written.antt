@@ -1,5 +1,5 @@
 -- What is written: digits, and bytes stored from a place on.
-use Prim.Native.Nat.{ℕ, zero, suc, _+_, _/_, _%_, _^_}
+use Prim.Native.Nat.{ℕ, zero, suc, _+_, _-_, _/_, _%_, _^_}
 use mathlib.Core.Bool.{Bool, cond}
 use mathlib.Core.List.{List, [], _∷_}
 use lib.Dec.{eqb, leb, ltb}
@@ -9,7 +9,7 @@ use lib.Ieee.{Float, binary64, toBits}
 
 -- the digit that counts d: `0` to `9`, then `A` to `F`
 unfoldable pub glyph : ℕ → ℕ
-glyph d = cond (ltb d 10) (48 + d) (55 + d)
+glyph d = cond (ltb d 10) (48 + d) (65 + (d - 10))
 
 -- the last k digits of n
 unfoldable pub lastDigits : ℕ → ℕ → ℕ → List ℕ

@@ -40,7 +40,7 @@ fn point_at(word: &[u8]) -> usize
 {
     let mut k = 0;
     while k < word.len() {
-        if word[k] == 46 {
+        if word[k] == b'.' {
             return k;
         }
         k += 1;
@@ -123,7 +123,7 @@ fn read_signed(word: &[u8]) -> Float64
     if same_bytes(word, b"-inf") {
         return Float64::Value(binary64::minus_infinity());
     }
-    if first_byte(word) == 45 {
+    if first_byte(word) == b'-' {
         return read_decimal(true, &word[1..]);
     }
     read_decimal(false, word)

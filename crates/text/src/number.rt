@@ -14,17 +14,17 @@ pub enum Number {
 fn figure(b: u8) -> u64
     ensures { λ r. ⌜ r ≡ Numbers·figure b ⌝ }
 {
-    if b < 48 {
+    if b < b'0' {
         return 16;
     }
-    if b <= 57 {
-        return (b - 48) as u64;
+    if b <= b'9' {
+        return (b - b'0') as u64;
     }
-    if b < 65 {
+    if b < b'A' {
         return 16;
     }
-    if b <= 70 {
-        return (b - 55) as u64;
+    if b <= b'F' {
+        return (b - b'A') as u64 + 10;
     }
     16
 }

@@ -31,19 +31,19 @@ pub fn same_bytes(a: &[u8], b: &[u8]) -> bool
 fn breaks(b: u8) -> bool
     ensures { λ r. ⌜ r ≡ Words·breaks b ⌝ }
 {
-    if b == 9 {
+    if b == b'\t' {
         return true;
     }
-    if b == 10 {
+    if b == b'\n' {
         return true;
     }
-    if b == 13 {
+    if b == b'\r' {
         return true;
     }
-    if b == 32 {
+    if b == b' ' {
         return true;
     }
-    b == 35
+    b == b'#'
 }
 
 // Whether a byte stands before a word: any byte of a comment does.
@@ -60,10 +60,10 @@ fn passes(comment: bool, b: u8) -> bool
 fn commented(comment: bool, b: u8) -> bool
     ensures { λ r. ⌜ r ≡ Words·commented comment b ⌝ }
 {
-    if b == 10 {
+    if b == b'\n' {
         return false;
     }
-    if b == 35 {
+    if b == b'#' {
         return true;
     }
     comment

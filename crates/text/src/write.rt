@@ -31,9 +31,9 @@ fn glyph(d: u64) -> u8
     ensures { λ r. ⌜ r ≡ Written·glyph d ⌝ }
 {
     if d < 10 {
-        return 48 + d as u8;
+        return b'0' + d as u8;
     }
-    55 + d as u8
+    b'A' + (d - 10) as u8
 }
 
 // As many of the last digits of n as there is room for.
@@ -56,7 +56,7 @@ fn count_zeros(digits: &[u8]) -> usize
 {
     let mut k = 0;
     while k + 1 < digits.len() {
-        if digits[k] != 48 {
+        if digits[k] != b'0' {
             return k;
         }
         k += 1;
