@@ -1,0 +1,60 @@
+-- `cases::building::print_list` meets its contract. Assumes nothing.
+use Prim.Native.Nat.{_-_}
+use mathlib.Core.Path.{_≡_}
+use lib.ListN.{length}
+use borrow.Author.Needs.{needs}
+use Rattle.cases.proofs.building.print_list.Statement.{statement}
+use Rattle.cases.proofs.building.print_list.Tie as tie
+
+abbrev Inv-loop : tie.InvT-loop
+Inv-loop out₀ start n list m at₀ k₀ out at k = length out ≡ length out₀
+
+abbrev μ-loop : tie.MeasureT-loop
+μ-loop out₀ start n list m at₀ k₀ out at k = m - k
+
+least-requires : tie.Need-least-requires Inv-loop μ-loop
+least-requires c κs = search needs
+
+loop-holds : tie.Need-loop-holds Inv-loop μ-loop
+loop-holds c = search needs
+
+mul-print-segment : tie.Need-mul-print-segment Inv-loop μ-loop
+mul-print-segment c = search needs
+
+array-copy-out-print-segment : tie.Need-array-copy-out-print-segment Inv-loop μ-loop
+array-copy-out-print-segment c = search needs
+
+print-segment-requires : tie.Need-print-segment-requires Inv-loop μ-loop
+print-segment-requires c κs = search needs
+
+add-k : tie.Need-add-k Inv-loop μ-loop
+add-k c = search needs
+
+loop-less : tie.Need-loop-less Inv-loop μ-loop
+loop-less c = search needs
+
+loop-again : tie.Need-loop-again Inv-loop μ-loop
+loop-again c = search needs
+
+same-length : tie.Need-same-length Inv-loop μ-loop
+same-length c = search needs
+
+returns : tie.Need-returns Inv-loop μ-loop
+returns c = search needs
+
+pub print-list-spec : {M : Type 1} → statement M
+print-list-spec =
+    tie.close
+    (tie.spec
+    Inv-loop
+    μ-loop
+    least-requires
+    loop-holds
+    mul-print-segment
+    array-copy-out-print-segment
+    print-segment-requires
+    add-k
+    loop-less
+    loop-again
+    same-length
+    returns)

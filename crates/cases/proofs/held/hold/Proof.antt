@@ -1,0 +1,64 @@
+-- `cases::held::hold` meets its contract. Assumes nothing.
+use Prim.Native.Nat.{_-_}
+use mathlib.Core.Path.{_≡_}
+use lib.ListN.{length}
+use borrow.Author.Needs.{needs}
+use Rattle.cases.proofs.held.hold.Statement.{statement}
+use Rattle.cases.proofs.held.hold.Tie as tie
+
+abbrev Inv-loop : tie.InvT-loop
+Inv-loop n numbers₀ intrinsics₀ list m k₀ numbers intrinsics k = (length numbers ≡ length numbers₀) × (length intrinsics ≡ length intrinsics₀)
+
+abbrev μ-loop : tie.MeasureT-loop
+μ-loop n numbers₀ intrinsics₀ list m k₀ numbers intrinsics k = m - k
+
+least-requires : tie.Need-least-requires Inv-loop μ-loop
+least-requires c κs = search needs
+
+loop-holds : tie.Need-loop-holds Inv-loop μ-loop
+loop-holds c = search needs
+
+mul-hold-segment : tie.Need-mul-hold-segment Inv-loop μ-loop
+mul-hold-segment c = search needs
+
+array-copy-out-hold-segment : tie.Need-array-copy-out-hold-segment Inv-loop μ-loop
+array-copy-out-hold-segment c = search needs
+
+hold-segment-requires : tie.Need-hold-segment-requires Inv-loop μ-loop
+hold-segment-requires c κs = search needs
+
+add-k : tie.Need-add-k Inv-loop μ-loop
+add-k c = search needs
+
+loop-less : tie.Need-loop-less Inv-loop μ-loop
+loop-less c = search needs
+
+loop-again : tie.Need-loop-again Inv-loop μ-loop
+loop-again c = search needs
+
+same-length : tie.Need-same-length Inv-loop μ-loop
+same-length c = search needs
+
+same-length-2 : tie.Need-same-length-2 Inv-loop μ-loop
+same-length-2 c = search needs
+
+returns : tie.Need-returns Inv-loop μ-loop
+returns c = search needs
+
+pub hold-spec : {M : Type 1} → statement M
+hold-spec =
+    tie.close
+    (tie.spec
+    Inv-loop
+    μ-loop
+    least-requires
+    loop-holds
+    mul-hold-segment
+    array-copy-out-hold-segment
+    hold-segment-requires
+    add-k
+    loop-less
+    loop-again
+    same-length
+    same-length-2
+    returns)

@@ -1,0 +1,131 @@
+// Building the list of segments.
+use crate::fill::fill_segment;
+use crate::fill::same_segment;
+use crate::held::hold;
+use crate::host::ANSWER;
+use crate::host::BACKWARD;
+use crate::host::FORWARD;
+use crate::host::FROM;
+use crate::host::FROM_SIDE;
+use crate::host::Host;
+use crate::host::LENGTHS;
+use crate::host::TO;
+use crate::host::TO_SIDE;
+use crate::host::answered;
+use crate::host::cut;
+use crate::host::release;
+use crate::network::flags_of;
+use crate::network::headings_of;
+use crate::network::lengths_of;
+use crate::network::relations_of;
+use crate::parts::least;
+use crate::print::end_line;
+use crate::print::print_bytes;
+use crate::print::print_float;
+use crate::print::print_header;
+use crate::print::print_number;
+use crate::print::print_refusal;
+use segments::array::ARRAY_SEGMENTS;
+use segments::array::BuiltArray;
+use segments::array::build_array;
+use segments::build::Built;
+use segments::segment::Segment;
+
+fn print_segment(out: &mut [u8], start: usize, segment: Segment) -> usize {
+    let named = print_bytes(out, start, b"segment");
+    let told = print_number(out, named, segment.element);
+    let begun = print_float(out, told, segment.start_intrinsic);
+    let ended = print_float(out, begun, segment.end_intrinsic);
+    let first = print_number(out, ended, segment.first_row);
+    let last = print_number(out, first, segment.last_row);
+    end_line(out, last)
+}
+
+pub fn print_list(
+    out: &mut [u8],
+    start: usize,
+    list: [Segment; ARRAY_SEGMENTS],
+    n: usize,
+) -> usize {
+    let m = least(n, ARRAY_SEGMENTS);
+    let mut at = start;
+    for k in 0..m {
+        at = print_segment(out, at, list[k]);
+    }
+    at
+}
+
+fn print_built(out: &mut [u8], start: usize, list: [Segment; ARRAY_SEGMENTS], n: usize) -> usize {
+    let next = print_header(out, start, b"segments", n);
+    print_list(out, next, list, n)
+}
+
+fn fill_list() -> [Segment; ARRAY_SEGMENTS] {
+    let fill = fill_segment();
+    [fill; ARRAY_SEGMENTS]
+}
+
+// Whether the entries past the first n hold the fill.
+fn built_kept(list: [Segment; ARRAY_SEGMENTS], n: usize) -> bool {
+    for k in n..ARRAY_SEGMENTS {
+        if !same_segment(list[k], fill_segment()) {
+            return false;
+        }
+    }
+    true
+}
+
+fn build(
+    h: Host,
+    floats: &[f64],
+    numbers: &[u32],
+    journal: &[u32],
+    cuts: &mut [u32],
+) -> BuiltArray {
+    let room = cut(cuts, ANSWER, ARRAY_SEGMENTS);
+    let built = build_array(
+        lengths_of(h, floats, cuts),
+        headings_of(h, floats, cuts),
+        flags_of(h, numbers, cuts),
+        relations_of(h, numbers, cuts, FROM),
+        relations_of(h, numbers, cuts, TO),
+        relations_of(h, numbers, cuts, FROM_SIDE),
+        relations_of(h, numbers, cuts, TO_SIDE),
+        relations_of(h, numbers, cuts, FORWARD),
+        relations_of(h, numbers, cuts, BACKWARD),
+        journal,
+        fill_list(),
+        room,
+    );
+    release(cuts, LENGTHS, BACKWARD + 1);
+    release(cuts, ANSWER, ANSWER + 1);
+    built
+}
+
+pub fn answer_segments(
+    h: Host,
+    floats: &[f64],
+    numbers: &[u32],
+    journal: &[u32],
+    cuts: &mut [u32],
+    held_numbers: &mut [u32],
+    held_intrinsics: &mut [f64],
+    out: &mut [u8],
+) -> Host {
+    let built = build(h, floats, numbers, journal, cuts);
+    let answer = built.answer;
+    let list = built.list;
+    match answer {
+        Built::Refused(k) => {
+            let at = print_refusal(out, h.out, b"segments", k);
+            answered(h, at, built_kept(list, 0))
+        }
+        Built::Segments(n) => {
+            let at = print_built(out, h.out, list, n);
+            hold(list, n, held_numbers, held_intrinsics);
+            let mut r = answered(h, at, built_kept(list, n));
+            r.held = n;
+            r
+        }
+    }
+}

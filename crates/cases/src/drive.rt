@@ -1,0 +1,199 @@
+// Opening, feeding and striking, and the used words.
+use crate::host::BACKWARD;
+use crate::host::DISTANCES;
+use crate::host::ELEMENTS;
+use crate::host::FORWARD;
+use crate::host::FROM;
+use crate::host::FROM_SIDE;
+use crate::host::Host;
+use crate::host::INTRINSICS;
+use crate::host::LENGTHS;
+use crate::host::NEAR;
+use crate::host::RAW_LOGS;
+use crate::host::TO;
+use crate::host::TO_SIDE;
+use crate::host::cut;
+use crate::host::release;
+use crate::host::settings_of;
+use crate::host::with_cursor;
+use crate::host::with_out;
+use crate::network::flags_of;
+use crate::network::headings_of;
+use crate::network::lengths_of;
+use crate::network::relations_of;
+use crate::parts::lend_numbers;
+use crate::parts::wide;
+use crate::print::print_header;
+use crate::print::print_journal_word;
+use crate::print::print_line;
+use crate::print::print_refusal;
+use decoder::feed::feed;
+use journal::call::Answer;
+use journal::call::open;
+use journal::call::strike;
+use text::cursor::take_count;
+use text::cursor::take_number;
+use text::list::first_floats;
+use text::list::first_numbers;
+use text::list::read_candidates;
+use text::list::read_distances;
+
+// How many candidates and distances of a fix are taken in.
+pub const CANDIDATES: usize = 20;
+
+pub const PAIRS: usize = 400;
+
+fn print_done(out: &mut [u8], h: Host, name: &[u8], answer: Answer) -> Host {
+    match answer {
+        Answer::Done => with_out(h, print_line(out, h.out, name, b" ok")),
+        Answer::Refused(k) => with_out(h, print_refusal(out, h.out, name, k)),
+    }
+}
+
+pub fn answer_open(h: Host, journal: &mut [u32], out: &mut [u8]) -> Host {
+    let answer = open(journal);
+    print_done(out, h, b"open", answer)
+}
+
+fn fill_words(journal: &mut [u32]) {
+    for k in 0..journal.len() {
+        journal[k] = 4294967295;
+    }
+}
+
+// A journal of so many words, each FFFFFFFF, then opened.
+pub fn answer_journal(text: &[u8], h: Host, journal: &mut [u32], out: &mut [u8]) -> Host {
+    let n = take_count(text, h.cursor, 262144);
+    let c = n.cursor;
+    let mut r = with_cursor(h, c);
+    if c.bad {
+        return r;
+    }
+    let words = wide(n.value);
+    r.words = words;
+    fill_words(lend_numbers(journal, words));
+    answer_open(r, lend_numbers(journal, words), out)
+}
+
+pub fn answer_strike(text: &[u8], h: Host, journal: &mut [u32], out: &mut [u8]) -> Host {
+    let n = take_number(text, h.cursor);
+    let c = n.cursor;
+    let r = with_cursor(h, c);
+    if c.bad {
+        return r;
+    }
+    let answer = strike(journal, n.value);
+    print_done(out, r, b"strike", answer)
+}
+
+// A fix that was read is fed, each of its slices as far as its cut allows.
+fn feed_fix(
+    h: Host,
+    floats: &[f64],
+    numbers: &[u32],
+    journal: &mut [u32],
+    cuts: &[u32],
+    elements: &[u32],
+    intrinsics: &[f64],
+    near: &[u32],
+    raw_logs: &[f64],
+    distances: &[f64],
+) -> Answer {
+    feed(
+        lengths_of(h, floats, cuts),
+        headings_of(h, floats, cuts),
+        flags_of(h, numbers, cuts),
+        relations_of(h, numbers, cuts, FROM),
+        relations_of(h, numbers, cuts, TO),
+        relations_of(h, numbers, cuts, FROM_SIDE),
+        relations_of(h, numbers, cuts, TO_SIDE),
+        relations_of(h, numbers, cuts, FORWARD),
+        relations_of(h, numbers, cuts, BACKWARD),
+        settings_of(h),
+        journal,
+        first_numbers(elements, cut(cuts, ELEMENTS, elements.len())),
+        first_floats(intrinsics, cut(cuts, INTRINSICS, intrinsics.len())),
+        first_numbers(near, cut(cuts, NEAR, near.len())),
+        first_floats(raw_logs, cut(cuts, RAW_LOGS, raw_logs.len())),
+        first_floats(distances, cut(cuts, DISTANCES, distances.len())),
+    )
+}
+
+pub fn answer_feed(
+    text: &[u8],
+    h: Host,
+    floats: &[f64],
+    numbers: &[u32],
+    journal: &mut [u32],
+    cuts: &mut [u32],
+    out: &mut [u8],
+) -> Host {
+    let count = take_count(text, h.cursor, 20);
+    let number = take_count(text, count.cursor, 400);
+    let n = wide(count.value);
+    let m = wide(number.value);
+    let mut elements = [0u32; CANDIDATES];
+    let mut intrinsics = [0.0; CANDIDATES];
+    let mut near = [0u32; CANDIDATES];
+    let mut raw_logs = [0.0; CANDIDATES];
+    let mut distances = [0.0; PAIRS];
+    let between = read_candidates(
+        text,
+        number.cursor,
+        count.value,
+        &mut elements,
+        &mut intrinsics,
+        &mut near,
+        &mut raw_logs,
+    );
+    let end = read_distances(text, between, number.value, &mut distances);
+    let r = with_cursor(h, end);
+    if end.bad {
+        return r;
+    }
+    let answer = feed_fix(
+        h,
+        floats,
+        numbers,
+        journal,
+        cuts,
+        first_numbers(&elements, n),
+        first_floats(&intrinsics, n),
+        first_numbers(&near, n),
+        first_floats(&raw_logs, n),
+        first_floats(&distances, m),
+    );
+    release(cuts, LENGTHS, DISTANCES + 1);
+    print_done(out, r, b"feed", answer)
+}
+
+// How many words are used, as word 0 tells it; 0 where it is not of kind 5 or tells more than there are.
+fn used_words(journal: &[u32]) -> usize {
+    if journal.len() == 0 {
+        return 0;
+    }
+    let word = journal[0];
+    if word / 268435456 != 5 {
+        return 0;
+    }
+    let used = wide(word % 268435456);
+    if journal.len() < used {
+        return 0;
+    }
+    used
+}
+
+fn print_words(out: &mut [u8], start: usize, words: &[u32]) -> usize {
+    let mut at = start;
+    for k in 0..words.len() {
+        at = print_journal_word(out, at, words[k]);
+    }
+    at
+}
+
+pub fn answer_words(h: Host, journal: &[u32], out: &mut [u8]) -> Host {
+    let n = used_words(journal);
+    let start = print_header(out, h.out, b"words", n);
+    let at = print_words(out, start, first_numbers(journal, n));
+    with_out(h, at)
+}

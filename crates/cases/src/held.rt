@@ -1,0 +1,92 @@
+// Segments in slices, each field in one of its own: as they are read, and as a list is held between two lines.
+use crate::parts::float_at;
+use crate::parts::floats_at;
+use crate::parts::least;
+use crate::parts::number_at;
+use crate::parts::numbers_at;
+use crate::parts::put_float;
+use crate::parts::put_number;
+use segments::array::ARRAY_SEGMENTS;
+use segments::segment::Segment;
+use segments::segment::zero_segment;
+use text::list::first_floats;
+use text::list::first_numbers;
+
+// The list held takes so many numbers, elements then first and last rows, and intrinsics, starts then ends.
+pub const HELD_NUMBERS: usize = 12288;
+
+pub const HELD_INTRINSICS: usize = 8192;
+
+fn segment_at(
+    k: usize,
+    elements: &[u32],
+    starts: &[f64],
+    ends: &[f64],
+    firsts: &[u32],
+    lasts: &[u32],
+) -> Segment {
+    Segment {
+        element: number_at(elements, k),
+        start_intrinsic: float_at(starts, k),
+        end_intrinsic: float_at(ends, k),
+        first_row: number_at(firsts, k),
+        last_row: number_at(lasts, k),
+    }
+}
+
+fn zero_list() -> [Segment; ARRAY_SEGMENTS] {
+    let none = zero_segment();
+    [none; ARRAY_SEGMENTS]
+}
+
+// The first n segments, with zeros behind them.
+pub fn list_of(
+    n: usize,
+    elements: &[u32],
+    starts: &[f64],
+    ends: &[f64],
+    firsts: &[u32],
+    lasts: &[u32],
+) -> [Segment; ARRAY_SEGMENTS] {
+    let m = least(n, ARRAY_SEGMENTS);
+    let mut list = zero_list();
+    for k in 0..m {
+        list[k] = segment_at(k, elements, starts, ends, firsts, lasts);
+    }
+    list
+}
+
+// The list held, of n segments.
+pub fn held_list(n: usize, numbers: &[u32], intrinsics: &[f64]) -> [Segment; ARRAY_SEGMENTS] {
+    list_of(
+        n,
+        first_numbers(numbers, ARRAY_SEGMENTS),
+        first_floats(intrinsics, ARRAY_SEGMENTS),
+        floats_at(intrinsics, ARRAY_SEGMENTS, ARRAY_SEGMENTS),
+        numbers_at(numbers, ARRAY_SEGMENTS, ARRAY_SEGMENTS),
+        numbers_at(numbers, 2 * ARRAY_SEGMENTS, ARRAY_SEGMENTS),
+    )
+}
+
+fn hold_segment(k: usize, segment: Segment, numbers: &mut [u32], intrinsics: &mut [f64]) {
+    if k < ARRAY_SEGMENTS {
+        put_number(numbers, k, segment.element);
+        put_float(intrinsics, k, segment.start_intrinsic);
+        put_float(intrinsics, ARRAY_SEGMENTS + k, segment.end_intrinsic);
+        put_number(numbers, ARRAY_SEGMENTS + k, segment.first_row);
+        put_number(numbers, 2 * ARRAY_SEGMENTS + k, segment.last_row);
+    }
+}
+
+// The first n segments of a list are held from now on.
+pub fn hold(
+    list: [Segment; ARRAY_SEGMENTS],
+    n: usize,
+    numbers: &mut [u32],
+    intrinsics: &mut [f64],
+) {
+    let m = least(n, ARRAY_SEGMENTS);
+    for k in 0..m {
+        hold_segment(k, list[k], numbers, intrinsics);
+    }
+}

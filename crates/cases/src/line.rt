@@ -1,0 +1,131 @@
+// A line of the case language: its first word, and which function answers it.
+use crate::building::answer_segments;
+use crate::collapsing::answer_collapse;
+use crate::drive::answer_feed;
+use crate::drive::answer_journal;
+use crate::drive::answer_open;
+use crate::drive::answer_strike;
+use crate::drive::answer_words;
+use crate::host::Host;
+use crate::host::with_cursor;
+use crate::host::with_out;
+use crate::network::read_network;
+use crate::parts::lend_numbers;
+use crate::paths::answer_close;
+use crate::paths::answer_row;
+use crate::paths::answer_steps;
+use crate::print::print_line;
+use crate::routes::answer_route;
+use crate::routes::answer_routes;
+use crate::routes::answer_triple;
+use crate::setup::poke;
+use crate::setup::read_settings;
+use crate::setup::read_short;
+use text::cursor::at_end;
+use text::cursor::refuse;
+use text::cursor::take_keyword;
+use text::keyword::Keyword;
+use text::list::first_numbers;
+
+// A line's first word, and the host behind it. Unknown ends the program.
+pub struct Line {
+    pub keyword: Keyword,
+    pub host: Host,
+}
+
+// The first word of the next line. One that is missing is an error unless the input has ended.
+pub fn next_line(text: &[u8], ended: bool, h: Host) -> Line {
+    let t = take_keyword(text, h.cursor);
+    let keyword = t.value;
+    match keyword {
+        Keyword::Unknown => {
+            if ended && at_end(text, h.cursor) {
+                return Line { keyword, host: h };
+            }
+            Line {
+                keyword,
+                host: with_cursor(h, refuse(t.cursor)),
+            }
+        }
+        _ => Line {
+            keyword,
+            host: with_cursor(h, t.cursor),
+        },
+    }
+}
+
+fn answer_kept(h: Host, out: &mut [u8]) -> Host {
+    if h.kept {
+        return with_out(h, print_line(out, h.out, b"kept", b" yes"));
+    }
+    with_out(h, print_line(out, h.out, b"kept", b" no"))
+}
+
+// The lines that read the network, on the journal's own words.
+fn ask(
+    keyword: Keyword,
+    text: &[u8],
+    h: Host,
+    floats: &[f64],
+    numbers: &[u32],
+    journal: &mut [u32],
+    cuts: &mut [u32],
+    out: &mut [u8],
+) -> Host {
+    match keyword {
+        Keyword::Settings => read_settings(text, h),
+        Keyword::Poke => poke(text, h, journal),
+        Keyword::Short => read_short(text, h, cuts),
+        Keyword::Open => answer_open(h, journal, out),
+        Keyword::Strike => answer_strike(text, h, journal, out),
+        Keyword::Feed => answer_feed(text, h, floats, numbers, journal, cuts, out),
+        Keyword::Words => answer_words(h, journal, out),
+        Keyword::Close => answer_close(h, journal, cuts, out),
+        Keyword::Row => answer_row(text, h, journal, cuts, out),
+        Keyword::Steps => answer_steps(text, h, floats, numbers, journal, cuts, out),
+        Keyword::Route => answer_route(text, h, floats, numbers, cuts, out),
+        Keyword::Routes => answer_routes(h, floats, numbers, cuts, out),
+        Keyword::Triple => answer_triple(text, h, floats, numbers, cuts, out),
+        Keyword::Kept => answer_kept(h, out),
+        _ => h,
+    }
+}
+
+pub fn answer(
+    keyword: Keyword,
+    text: &[u8],
+    h: Host,
+    floats: &mut [f64],
+    numbers: &mut [u32],
+    journal: &mut [u32],
+    cuts: &mut [u32],
+    held_numbers: &mut [u32],
+    held_intrinsics: &mut [f64],
+    out: &mut [u8],
+) -> Host {
+    match keyword {
+        Keyword::Network => read_network(text, h, floats, numbers),
+        Keyword::Journal => answer_journal(text, h, journal, out),
+        Keyword::Segments => answer_segments(
+            h,
+            floats,
+            numbers,
+            first_numbers(journal, h.words),
+            cuts,
+            held_numbers,
+            held_intrinsics,
+            out,
+        ),
+        Keyword::Collapse => answer_collapse(text, h, cuts, held_numbers, held_intrinsics, out),
+        _ => ask(
+            keyword,
+            text,
+            h,
+            floats,
+            numbers,
+            lend_numbers(journal, h.words),
+            cuts,
+            out,
+        ),
+    }
+}

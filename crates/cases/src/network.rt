@@ -1,0 +1,133 @@
+// The network that is held: lengths and headings in one slice of floats, flags and the relations' fields in one of numbers, each in a part of its own.
+use crate::host::BACKWARD;
+use crate::host::FLAGS;
+use crate::host::FORWARD;
+use crate::host::FROM;
+use crate::host::FROM_SIDE;
+use crate::host::HEADINGS;
+use crate::host::Host;
+use crate::host::LENGTHS;
+use crate::host::TO;
+use crate::host::TO_SIDE;
+use crate::host::cut;
+use crate::host::with_cursor;
+use crate::parts::copy_floats;
+use crate::parts::copy_numbers;
+use crate::parts::floats_at;
+use crate::parts::least;
+use crate::parts::numbers_at;
+use crate::parts::wide;
+use text::cursor::Cursor;
+use text::cursor::take_count;
+use text::list::first_floats;
+use text::list::first_numbers;
+use text::list::read_elements;
+use text::list::read_relations;
+
+// How many elements and relations are taken in.
+pub const MOST_ELEMENTS: usize = 1100;
+
+const MOST_RELATIONS: usize = 4200;
+
+// How many floats and numbers they take.
+pub const FLOATS: usize = 5500;
+
+pub const NUMBERS: usize = 26300;
+
+// The lengths that the next call gets.
+pub fn lengths_of<'a>(h: Host, floats: &'a [f64], cuts: &[u32]) -> &'a [f64] {
+    first_floats(floats, cut(cuts, LENGTHS, h.elements))
+}
+
+// The headings, four an element.
+pub fn headings_of<'a>(h: Host, floats: &'a [f64], cuts: &[u32]) -> &'a [f64] {
+    let n = 4 * least(h.elements, MOST_ELEMENTS);
+    floats_at(floats, MOST_ELEMENTS, cut(cuts, HEADINGS, n))
+}
+
+pub fn flags_of<'a>(h: Host, numbers: &'a [u32], cuts: &[u32]) -> &'a [u32] {
+    first_numbers(numbers, cut(cuts, FLAGS, h.elements))
+}
+
+// Where a field of the relations starts, by the number of its slice.
+fn field_start(slice: usize) -> usize {
+    match slice {
+        FROM => 1100,
+        TO => 5300,
+        FROM_SIDE => 9500,
+        TO_SIDE => 13700,
+        FORWARD => 17900,
+        _ => 22100,
+    }
+}
+
+pub fn relations_of<'a>(h: Host, numbers: &'a [u32], cuts: &[u32], slice: usize) -> &'a [u32] {
+    numbers_at(numbers, field_start(slice), cut(cuts, slice, h.relations))
+}
+
+fn store_floats(floats: &mut [f64], start: usize, values: &[f64]) {
+    if start <= floats.len() {
+        copy_floats(&mut floats[start..], values);
+    }
+}
+
+fn store_numbers(numbers: &mut [u32], start: usize, values: &[u32]) {
+    if start <= numbers.len() {
+        copy_numbers(&mut numbers[start..], values);
+    }
+}
+
+fn take_elements(
+    text: &[u8],
+    c: Cursor,
+    n: u32,
+    floats: &mut [f64],
+    numbers: &mut [u32],
+) -> Cursor {
+    let mut lengths = [0.0; MOST_ELEMENTS];
+    let mut headings = [0.0; 4 * MOST_ELEMENTS];
+    let mut flags = [0u32; MOST_ELEMENTS];
+    let end = read_elements(text, c, n, &mut lengths, &mut headings, &mut flags);
+    store_floats(floats, 0, &lengths);
+    store_floats(floats, MOST_ELEMENTS, &headings);
+    store_numbers(numbers, 0, &flags);
+    end
+}
+
+fn take_relations(text: &[u8], c: Cursor, n: u32, numbers: &mut [u32]) -> Cursor {
+    let mut from = [0u32; MOST_RELATIONS];
+    let mut to = [0u32; MOST_RELATIONS];
+    let mut from_side = [0u32; MOST_RELATIONS];
+    let mut to_side = [0u32; MOST_RELATIONS];
+    let mut forward = [0u32; MOST_RELATIONS];
+    let mut backward = [0u32; MOST_RELATIONS];
+    let end = read_relations(
+        text,
+        c,
+        n,
+        &mut from,
+        &mut to,
+        &mut from_side,
+        &mut to_side,
+        &mut forward,
+        &mut backward,
+    );
+    store_numbers(numbers, field_start(FROM), &from);
+    store_numbers(numbers, field_start(TO), &to);
+    store_numbers(numbers, field_start(FROM_SIDE), &from_side);
+    store_numbers(numbers, field_start(TO_SIDE), &to_side);
+    store_numbers(numbers, field_start(FORWARD), &forward);
+    store_numbers(numbers, field_start(BACKWARD), &backward);
+    end
+}
+
+pub fn read_network(text: &[u8], h: Host, floats: &mut [f64], numbers: &mut [u32]) -> Host {
+    let n = take_count(text, h.cursor, 1100);
+    let m = take_count(text, n.cursor, 4200);
+    let between = take_elements(text, m.cursor, n.value, floats, numbers);
+    let end = take_relations(text, between, m.value, numbers);
+    let mut r = with_cursor(h, end);
+    r.elements = wide(n.value);
+    r.relations = wide(m.value);
+    r
+}

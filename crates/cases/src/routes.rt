@@ -1,0 +1,225 @@
+// Routes between sides, and triples of elements.
+use crate::fill::FILL;
+use crate::fill::words_kept;
+use crate::host::ANSWER;
+use crate::host::BACKWARD;
+use crate::host::FORWARD;
+use crate::host::FROM;
+use crate::host::FROM_SIDE;
+use crate::host::Host;
+use crate::host::LENGTHS;
+use crate::host::TO;
+use crate::host::TO_SIDE;
+use crate::host::answered;
+use crate::host::cut;
+use crate::host::release;
+use crate::host::with_cursor;
+use crate::host::with_out;
+use crate::network::MOST_ELEMENTS;
+use crate::network::flags_of;
+use crate::network::headings_of;
+use crate::network::lengths_of;
+use crate::network::relations_of;
+use crate::parts::least;
+use crate::parts::lend_numbers;
+use crate::print::end_line;
+use crate::print::print_bytes;
+use crate::print::print_count;
+use crate::print::print_digits;
+use crate::print::print_float;
+use crate::print::print_line;
+use crate::print::print_number;
+use crate::print::print_refusal;
+use routing::route::Listing;
+use routing::route::shortest_path_route;
+use routing::triple::Consistency;
+use routing::triple::triple_is_consistent;
+use text::cursor::take_number;
+use text::list::first_numbers;
+
+// More than the states of the longest route.
+const STATES: usize = 4200;
+
+// A side of an element.
+struct Side {
+    element: u32,
+    side: u32,
+}
+
+fn print_states(out: &mut [u8], start: usize, states: &[u32]) -> usize {
+    if states.len() == 0 {
+        return end_line(out, start);
+    }
+    let mut at = print_digits(out, start, states[0]);
+    for k in 1..states.len() {
+        at = print_number(out, at, states[k]);
+    }
+    end_line(out, at)
+}
+
+fn print_route(out: &mut [u8], start: usize, answer: Listing, states: &[u32]) -> usize {
+    match answer {
+        Listing::NoRoute => print_line(out, start, b"route", b" none"),
+        Listing::Refused(k) => print_refusal(out, start, b"route", k),
+        Listing::Listed(cost, n) => {
+            let named = print_bytes(out, start, b"route");
+            let priced = print_float(out, named, cost);
+            let counted = print_count(out, priced, n);
+            let next = end_line(out, counted);
+            print_states(out, next, states)
+        }
+    }
+}
+
+fn state_count(answer: Listing) -> usize {
+    match answer {
+        Listing::NoRoute => 0,
+        Listing::Refused(_) => 0,
+        Listing::Listed(_, n) => least(n, STATES),
+    }
+}
+
+fn ask_route(
+    start: Side,
+    goal: Side,
+    h: Host,
+    floats: &[f64],
+    numbers: &[u32],
+    cuts: &mut [u32],
+    out: &mut [u8],
+) -> Host {
+    let mut states = [FILL; STATES];
+    let room = cut(cuts, ANSWER, STATES);
+    let answer = shortest_path_route(
+        lengths_of(h, floats, cuts),
+        headings_of(h, floats, cuts),
+        flags_of(h, numbers, cuts),
+        relations_of(h, numbers, cuts, FROM),
+        relations_of(h, numbers, cuts, TO),
+        relations_of(h, numbers, cuts, FROM_SIDE),
+        relations_of(h, numbers, cuts, TO_SIDE),
+        relations_of(h, numbers, cuts, FORWARD),
+        relations_of(h, numbers, cuts, BACKWARD),
+        start.element,
+        start.side,
+        goal.element,
+        goal.side,
+        lend_numbers(&mut states, room),
+    );
+    release(cuts, LENGTHS, BACKWARD + 1);
+    release(cuts, ANSWER, ANSWER + 1);
+    let n = state_count(answer);
+    let at = print_route(out, h.out, answer, first_numbers(&states, n));
+    answered(h, at, words_kept(&states, n))
+}
+
+pub fn answer_route(
+    text: &[u8],
+    h: Host,
+    floats: &[f64],
+    numbers: &[u32],
+    cuts: &mut [u32],
+    out: &mut [u8],
+) -> Host {
+    let a = take_number(text, h.cursor);
+    let b = take_number(text, a.cursor);
+    let c = take_number(text, b.cursor);
+    let d = take_number(text, c.cursor);
+    let end = d.cursor;
+    let r = with_cursor(h, end);
+    if end.bad {
+        return r;
+    }
+    let start = Side {
+        element: a.value,
+        side: b.value,
+    };
+    let goal = Side {
+        element: c.value,
+        side: d.value,
+    };
+    ask_route(start, goal, r, floats, numbers, cuts, out)
+}
+
+// A side by its number: 2 times element plus side.
+fn side_of(node: u32) -> Side {
+    Side {
+        element: node / 2,
+        side: node % 2,
+    }
+}
+
+fn routes_from(
+    start: u32,
+    nodes: u32,
+    h: Host,
+    floats: &[f64],
+    numbers: &[u32],
+    cuts: &mut [u32],
+    out: &mut [u8],
+) -> Host {
+    let mut r = h;
+    for goal in 0..nodes {
+        r = ask_route(side_of(start), side_of(goal), r, floats, numbers, cuts, out);
+    }
+    r
+}
+
+// Every known side to every known side. The first call takes the cuts.
+pub fn answer_routes(
+    h: Host,
+    floats: &[f64],
+    numbers: &[u32],
+    cuts: &mut [u32],
+    out: &mut [u8],
+) -> Host {
+    let nodes = 2 * least(h.elements, MOST_ELEMENTS) as u32;
+    let mut r = h;
+    for start in 0..nodes {
+        r = routes_from(start, nodes, r, floats, numbers, cuts, out);
+    }
+    r
+}
+
+fn print_triple(out: &mut [u8], start: usize, answer: Consistency) -> usize {
+    match answer {
+        Consistency::Consistent => print_line(out, start, b"triple", b" yes"),
+        Consistency::Inconsistent => print_line(out, start, b"triple", b" no"),
+        Consistency::Refused(k) => print_refusal(out, start, b"triple", k),
+    }
+}
+
+pub fn answer_triple(
+    text: &[u8],
+    h: Host,
+    floats: &[f64],
+    numbers: &[u32],
+    cuts: &mut [u32],
+    out: &mut [u8],
+) -> Host {
+    let a = take_number(text, h.cursor);
+    let b = take_number(text, a.cursor);
+    let c = take_number(text, b.cursor);
+    let end = c.cursor;
+    let r = with_cursor(h, end);
+    if end.bad {
+        return r;
+    }
+    let answer = triple_is_consistent(
+        lengths_of(h, floats, cuts),
+        headings_of(h, floats, cuts),
+        flags_of(h, numbers, cuts),
+        relations_of(h, numbers, cuts, FROM),
+        relations_of(h, numbers, cuts, TO),
+        relations_of(h, numbers, cuts, FROM_SIDE),
+        relations_of(h, numbers, cuts, TO_SIDE),
+        relations_of(h, numbers, cuts, FORWARD),
+        relations_of(h, numbers, cuts, BACKWARD),
+        a.value,
+        b.value,
+        c.value,
+    );
+    release(cuts, LENGTHS, BACKWARD + 1);
+    let at = print_triple(out, h.out, answer);
+    with_out(r, at)
+}
