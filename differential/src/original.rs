@@ -70,7 +70,7 @@ fn candidates_of(fix: &Fix, first: usize) -> Vec<CandidateNetElement> {
 }
 
 /// All fixes' candidates; their distances are handed over on the way.
-fn position_candidates(fixes: &[&Fix]) -> Vec<Vec<CandidateNetElement>> {
+pub fn position_candidates(fixes: &[&Fix]) -> Vec<Vec<CandidateNetElement>> {
     let mut table = Vec::new();
     let mut positions = Vec::new();
     for fix in fixes {
@@ -145,14 +145,28 @@ fn key(settings: Settings, fixes: &[&Fix]) -> Vec<u64> {
     key
 }
 
+/// All fixes' raw logs.
+pub fn raw_logs(fixes: &[&Fix]) -> Vec<Vec<f64>> {
+    fixes.iter().map(|fix| fix.candidates.iter().map(|c| c.raw_log).collect()).collect()
+}
+
+pub fn config(settings: Settings) -> PathConfig {
+    PathConfig { beta: settings.beta, turn_scale: settings.scale, ..PathConfig::default() }
+}
+
 impl Original {
-    fn decode(&mut self, settings: Settings, fixes: &[&Fix]) -> Decoded {
-        let candidates = position_candidates(fixes);
-        let logs: Vec<Vec<f64>> = fixes.iter().map(|fix| fix.candidates.iter().map(|c| c.raw_log).collect()).collect();
-        let config = PathConfig { beta: settings.beta, turn_scale: settings.scale, ..PathConfig::default() };
+    /// The original's own call, over the cache as it is.
+    pub fn viterbi_decode(&mut self, candidates: &[Vec<CandidateNetElement>], logs: &[Vec<f64>], config: &PathConfig) -> ViterbiResult {
         let (nodes, cache) = (&self.nodes, &mut self.cache);
-        let result = viterbi::viterbi_decode(&candidates, &logs, &self.netelements, &self.index, &self.graph, nodes, cache, &config);
-        let result = result.expect("a decoding");
+        viterbi::viterbi_decode(candidates, logs, &self.netelements, &self.index, &self.graph, nodes, cache, config).expect("a decoding")
+    }
+
+    pub fn clear_cache(&mut self) {
+        self.cache.clear();
+    }
+
+    fn decode(&mut self, settings: Settings, fixes: &[&Fix]) -> Decoded {
+        let result = self.viterbi_decode(&position_candidates(fixes), &raw_logs(fixes), &config(settings));
         let (scores, parents) = original::tables::take();
         let step = |&(before, its, row, own, score): &(usize, usize, usize, usize, f64)| Step { before, its, row, own, score };
         let path = |closed: &ViterbiSubsequence| Path { score: closed.log_probability, states: closed.states.clone() };
