@@ -1,0 +1,151 @@
+//! Box beside the original, on the same inputs in one run: a table of ratios.
+
+mod host;
+mod linked;
+mod yard;
+
+use differential::language::{Fix, Network, Settings};
+use differential::original::{config, position_candidates, raw_logs, Original};
+use differential::session::Core;
+use host::{FixSlices, Slices};
+use std::hint::black_box;
+use std::time::Instant;
+
+const SETTINGS: Settings = Settings { beta: 50.0, scale: 30.0 };
+
+/// The median of some times in microseconds, the least and the greatest.
+#[derive(Clone, Copy)]
+struct Times {
+    median: f64,
+    least: f64,
+    greatest: f64,
+}
+
+impl Times {
+    fn of(mut micros: Vec<f64>) -> Times {
+        micros.sort_by(f64::total_cmp);
+        Times { median: micros[micros.len() / 2], least: micros[0], greatest: micros[micros.len() - 1] }
+    }
+
+    fn shown(&self) -> String {
+        format!("{:.1} ({:.1} to {:.1})", self.median, self.least, self.greatest)
+    }
+}
+
+/// Runs something so many times; fewer, but three at least, where that takes over four seconds.
+fn timed(runs: usize, mut run: impl FnMut()) -> Times {
+    let start = Instant::now();
+    let mut micros = Vec::new();
+    while micros.len() < runs && (micros.len() < 3 || start.elapsed().as_secs_f64() < 4.0) {
+        let began = Instant::now();
+        run();
+        micros.push(began.elapsed().as_secs_f64() * 1e6);
+    }
+    Times::of(micros)
+}
+
+fn print_row(case: &str, goal: &str, box_times: Times, other: Times) {
+    let ratio = box_times.median / other.median;
+    println!("| {case} | {} | {} | {ratio:.3} | {goal} |", box_times.shown(), other.shown());
+}
+
+fn original_of(network: &Network) -> Original {
+    let mut original = Original::default();
+    original.adopt(network);
+    original
+}
+
+/// Two fixes: Box opens and feeds both, the original decodes both with an empty cache.
+fn two_fixes(case: &str, goal: &str, network: &Network, fixes: &[Fix], runs: usize) {
+    let (slices, given): (_, Vec<FixSlices>) = (Slices::of(network), fixes.iter().map(FixSlices::of).collect());
+    let mut journal = vec![0; 4096];
+    let box_times = timed(runs, || {
+        host::open(&mut journal);
+        given.iter().for_each(|fix| host::feed(&slices, SETTINGS, &mut journal, fix));
+    });
+    let handed: Vec<&Fix> = fixes.iter().collect();
+    let (logs, config) = (raw_logs(&handed), config(SETTINGS));
+    let candidates = position_candidates(&handed);
+    let mut original = original_of(network);
+    let other = timed(runs, || {
+        original.clear_cache();
+        black_box(original.viterbi_decode(&candidates, &logs, &config));
+    });
+    print_row(case, goal, box_times, other);
+}
+
+/// A drive, in microseconds a fix: Box without its checks of the journal, the original with a cache that fills over the drive.
+fn drive(case: &str, goal: &str, network: &Network, fixes: &[Fix], runs: usize) {
+    let (slices, given): (_, Vec<FixSlices>) = (Slices::of(network), fixes.iter().map(FixSlices::of).collect());
+    let count = fixes.len() as f64;
+    let mut journal = vec![0; 80 * fixes.len() + 1];
+    let mut times = Vec::new();
+    for _ in 0..runs {
+        host::open(&mut journal);
+        let mut spent = 0.0;
+        for fix in &given {
+            let began = Instant::now();
+            host::check(&mut journal);
+            let checked = began.elapsed().as_secs_f64();
+            host::feed(&slices, SETTINGS, &mut journal, fix);
+            spent += began.elapsed().as_secs_f64() - 2.0 * checked;
+        }
+        times.push(spent * 1e6 / count);
+    }
+    let handed: Vec<&Fix> = fixes.iter().collect();
+    let (logs, config) = (raw_logs(&handed), config(SETTINGS));
+    let candidates = position_candidates(&handed);
+    let mut original = original_of(network);
+    let whole = timed(runs, || {
+        original.clear_cache();
+        black_box(original.viterbi_decode(&candidates, &logs, &config));
+    });
+    let other = Times { median: whole.median / count, least: whole.least / count, greatest: whole.greatest / count };
+    print_row(case, goal, Times::of(times), other);
+}
+
+/// A sum of words, one after the other.
+fn plain_sum(words: &[u32]) -> u32 {
+    words.iter().fold(0, |sum: u32, &word| black_box(sum).wrapping_add(word))
+}
+
+/// A journal of so many rows of 4 candidates.
+fn long_journal(slices: &Slices, network: &Network, rows: usize) -> Vec<u32> {
+    let mut short = vec![0; 80 * 500];
+    host::open(&mut short);
+    yard::drive(network, 500, 4).iter().map(FixSlices::of).for_each(|fix| host::feed(slices, SETTINGS, &mut short, &fix));
+    yard::long_journal(&short, rows)
+}
+
+fn main() {
+    println!("| case | Box, us: median (least to greatest) | beside it | ratio | goal |");
+    println!("|---|---|---|---|---|");
+    for (elements, goal) in [(1024, "0.100"), (100, "0.200")] {
+        let network = yard::network(elements);
+        two_fixes(&format!("feed, {elements} elements, 16 spread"), goal, &network, &yard::two_spread(&network, 16), 21);
+        two_fixes(&format!("feed, {elements} elements, 4 spread"), "", &network, &yard::two_spread(&network, 4), 21);
+        for candidates in [4, 16] {
+            let case = format!("feed, {elements} elements, {candidates} neighbouring");
+            two_fixes(&case, "0.500", &network, &yard::two_neighbouring(&network, candidates), 101);
+        }
+    }
+    let network = yard::network(1024);
+    drive("drive of 1,000 fixes, 4 neighbouring, a fix", "1.000", &network, &yard::drive(&network, 1000, 4), 5);
+    let slices = Slices::of(&network);
+    let (mut journal, twice) = (long_journal(&slices, &network, 10_000), long_journal(&slices, &network, 20_000));
+    let check = timed(21, || host::check(&mut journal));
+    let sum = timed(21, || {
+        black_box(plain_sum(&journal));
+    });
+    print_row("check 7, 10,000 rows, beside a plain sum of its words", "4.000", check, sum);
+    let (mut rows, mut candidates) = (vec![0; 20_000], vec![0; 20_000]);
+    let mut segments = vec![linked::Segment::default(); 40_000];
+    let mut close_and_build = |journal: &[u32]| {
+        timed(5, || {
+            black_box(host::close(journal, &mut rows, &mut candidates));
+            black_box(host::build(&slices, journal, &mut segments));
+        })
+    };
+    let (long, longer) = (close_and_build(&journal), close_and_build(&twice));
+    print_row("close and build, 20,000 rows beside 10,000", "2.200", longer, long);
+}
