@@ -13,7 +13,8 @@
 
    Memory. No call allocates, and nothing is kept between calls: what Box knows stands in the journal, words that the
    host owns, and may copy, store and hand back. Threads may call at once, each on a journal of its own. No call uses
-   more stack than BOX_STACK_BYTES; README.md has the table. */
+   more stack than BOX_STACK_BYTES; README.md has the table. Floats are IEEE 754 binary64: the processor must round to
+   nearest and keep subnormals, as it does where nobody changed it. */
 #ifndef BOX_H
 #define BOX_H
 

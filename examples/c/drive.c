@@ -19,7 +19,11 @@ enum { ELEMENTS = 5, RELATIONS = 5 };
 static const char *const names[ELEMENTS] = {"west line", "track 1", "track 2", "points", "east line"};
 static const double lengths[ELEMENTS] = {400, 600, 600, 10, 500};
 static const double headings[4 * ELEMENTS] = {
-    270, 90, 90, 270, 270, 90, 90, 270, 275, 90, 95, 270, 270, 90, 90, 270, 270, 90, 90, 270,
+    270, 90, 90, 270, /* out at side 0, out at side 1, in at side 0, in at side 1 */
+    270, 90, 90, 270,
+    275, 90, 95, 270,
+    270, 90, 90, 270,
+    270, 90, 90, 270,
 };
 static const uint32_t flags[ELEMENTS] = {1, 1, 1, 1, 1};
 static const uint32_t from[RELATIONS] = {0, 0, 1, 2, 3};

@@ -12,8 +12,11 @@ const NAMES: [&str; 5] = ["west line", "track 1", "track 2", "points", "east lin
 const NETWORK: Network = Network {
     lengths: &[400.0, 600.0, 600.0, 10.0, 500.0],
     headings: &[
-        270.0, 90.0, 90.0, 270.0, 270.0, 90.0, 90.0, 270.0, 275.0, 90.0, 95.0, 270.0, 270.0, 90.0, 90.0, 270.0, 270.0, 90.0, 90.0,
-        270.0,
+        270.0, 90.0, 90.0, 270.0, // out at side 0, out at side 1, in at side 0, in at side 1
+        270.0, 90.0, 90.0, 270.0, //
+        275.0, 90.0, 95.0, 270.0, //
+        270.0, 90.0, 90.0, 270.0, //
+        270.0, 90.0, 90.0, 270.0,
     ],
     flags: &[1; 5],
     from: &[0, 0, 1, 2, 3],
@@ -108,7 +111,10 @@ fn name(element: u32) -> &'static str {
 }
 
 fn yes_or_no(is_so: bool) -> &'static str {
-    if is_so { "yes" } else { "no" }
+    match is_so {
+        true => "yes",
+        false => "no",
+    }
 }
 
 fn show_route() -> Result<(), Refusal> {
