@@ -1,0 +1,234 @@
+/* A short drive through the C interface. A train comes from the west, runs through a tunnel, and its host strikes two
+   bad fixes at the far portal and feeds better ones. Before the points a reflection throws two fixes on the other
+   track; collapsing takes them out again. */
+#include "box.h"
+
+#include <math.h>
+#include <stdio.h>
+#include <stdlib.h>
+
+/* ---- The network. Every element runs from west (side 0) to east (side 1).
+
+                     ,-- 1 track 1 --.
+      0 west line --<                 >-- 3 points -- 4 east line
+                     '-- 2 track 2 --'
+*/
+
+enum { ELEMENTS = 5, RELATIONS = 5 };
+
+static const char *const names[ELEMENTS] = {"west line", "track 1", "track 2", "points", "east line"};
+static const double lengths[ELEMENTS] = {400, 600, 600, 10, 500};
+static const double headings[4 * ELEMENTS] = {
+    270, 90, 90, 270, /* out at side 0, out at side 1, in at side 0, in at side 1 */
+    270, 90, 90, 270,
+    275, 90, 95, 270,
+    270, 90, 90, 270,
+    270, 90, 90, 270,
+};
+static const uint32_t flags[ELEMENTS] = {1, 1, 1, 1, 1};
+static const uint32_t from[RELATIONS] = {0, 0, 1, 2, 3};
+static const uint32_t to[RELATIONS] = {1, 2, 3, 3, 4};
+static const uint32_t from_side[RELATIONS] = {1, 1, 1, 1, 1};
+static const uint32_t to_side[RELATIONS] = {0, 0, 0, 0, 0};
+static const uint32_t both_ways[RELATIONS] = {1, 1, 1, 1, 1};
+
+static const struct box_network network = {
+    ELEMENTS, lengths, headings, flags, RELATIONS, from, to, from_side, to_side, both_ways, both_ways,
+};
+
+static const double beta = 20, scale = 60;
+
+/* ---- The fixes: metres driven, then up to two candidates, each with its element, intrinsic, near flag and raw log. */
+
+struct fix {
+    double metres;
+    size_t count;
+    uint32_t elements[2];
+    double intrinsics[2];
+    uint32_t near_flags[2];
+    double raw_logs[2];
+};
+
+static const struct fix approach[] = {
+    {250, 1, {0, 0}, {0.625, 0}, {0, 0}, {-0.1, 0}},
+    {350, 1, {0, 0}, {0.875, 0}, {1, 0}, {-0.1, 0}},
+    {450, 2, {1, 2}, {0.083, 0.083}, {1, 1}, {-0.3, -2.5}},
+    {550, 2, {1, 2}, {0.25, 0.25}, {0, 0}, {-0.3, -2.5}},
+    {650, 0, {0, 0}, {0, 0}, {0, 0}, {0, 0}}, /* the tunnel: rows without candidates */
+    {750, 0, {0, 0}, {0, 0}, {0, 0}, {0, 0}},
+};
+
+static const struct fix at_the_portal[] = {
+    {850, 2, {1, 2}, {0.75, 0.75}, {0, 0}, {-9.0, -0.1}}, /* few satellites: track 2 seems much closer */
+    {900, 2, {1, 2}, {0.833, 0.833}, {0, 0}, {-9.0, -0.1}},
+};
+
+static const struct fix onward[] = {
+    {850, 2, {1, 2}, {0.75, 0.75}, {0, 0}, {-0.3, -2.5}}, /* the same two places, worked out again */
+    {900, 2, {1, 2}, {0.833, 0.833}, {0, 0}, {-0.3, -2.5}},
+    {950, 2, {1, 2}, {0.917, 0.917}, {1, 1}, {-0.3, -2.5}},
+    {975, 2, {1, 2}, {0.958, 0.958}, {1, 1}, {-12.0, -0.1}}, /* a reflection */
+    {985, 2, {1, 2}, {0.975, 0.975}, {1, 1}, {-12.0, -0.1}},
+    {990, 2, {1, 2}, {0.983, 0.983}, {1, 1}, {-0.1, -12.0}},
+    {995, 2, {1, 2}, {0.992, 0.992}, {1, 1}, {-0.1, -12.0}},
+    {1060, 1, {4, 0}, {0.1, 0}, {1, 0}, {-0.1, 0}},
+    {1160, 1, {4, 0}, {0.3, 0}, {0, 0}, {-0.1, 0}},
+};
+
+/* ---- The host: the journal's words, how many rows stand in it, and where each of them was fed. */
+
+enum { WORDS = 1024, ROWS = 32 };
+
+struct host {
+    uint32_t journal[WORDS];
+    uint32_t rows;
+    double metres[ROWS];
+};
+
+static void expect_done(const char *what, uint32_t status) {
+    if (status != BOX_DONE) {
+        printf("%s: refused with %u\n", what, (unsigned)status);
+        exit(1);
+    }
+}
+
+struct row {
+    size_t count, predecessor_count;
+    uint32_t elements[BOX_MAX_CANDIDATES], near_flags[BOX_MAX_CANDIDATES], parents[BOX_MAX_CANDIDATES];
+    double intrinsics[BOX_MAX_CANDIDATES], raw_logs[BOX_MAX_CANDIDATES], scores[BOX_MAX_CANDIDATES];
+    double distances[BOX_MAX_STEPS];
+};
+
+static void read_row(const struct host *host, uint32_t number, struct row *row) {
+    expect_done("read", box_read_row(host->journal, WORDS, number, row->elements, BOX_MAX_CANDIDATES,
+        row->intrinsics, BOX_MAX_CANDIDATES, row->near_flags, BOX_MAX_CANDIDATES, row->raw_logs, BOX_MAX_CANDIDATES,
+        row->parents, BOX_MAX_CANDIDATES, row->scores, BOX_MAX_CANDIDATES, row->distances, BOX_MAX_STEPS,
+        &row->count, &row->predecessor_count));
+}
+
+/* How many candidates the latest row with a finite score has, and where it was fed; 0 where there is no such row. */
+static size_t predecessor(const struct host *host, double *metres) {
+    struct row row;
+    for (uint32_t number = host->rows; number > 0; number--) {
+        read_row(host, number - 1, &row);
+        for (size_t i = 0; i < row.count; i++) {
+            if (isfinite(row.scores[i])) {
+                *metres = host->metres[number - 1];
+                return row.count;
+            }
+        }
+    }
+    return 0;
+}
+
+static void feed(struct host *host, const struct fix *fixes, size_t count) {
+    for (const struct fix *fix = fixes; fix < fixes + count; fix++) {
+        double start = 0, distances[4];
+        size_t pairs = fix->count == 0 ? 0 : fix->count * predecessor(host, &start);
+        for (size_t i = 0; i < pairs; i++) distances[i] = fix->metres - start;
+        expect_done("feed", box_feed(BOX_NETWORK(network), beta, scale, host->journal, WORDS, fix->elements, fix->count,
+            fix->intrinsics, fix->count, fix->near_flags, fix->count, fix->raw_logs, fix->count, distances, pairs));
+        host->metres[host->rows++] = fix->metres;
+    }
+}
+
+/* ---- What a person reads. */
+
+static void show_route(void) {
+    uint32_t states[BOX_MAX_STATES], through, back;
+    double cost, same;
+    size_t count;
+    expect_done("distance", box_shortest_path_distance(BOX_NETWORK(network), 0, 0, 4, 1, &cost));
+    expect_done("route", box_shortest_path_route(BOX_NETWORK(network), 0, 0, 4, 1, states, BOX_MAX_STATES, &same, &count));
+    printf("  from end to end: %.0f m, over", cost);
+    for (size_t i = 0; i < count; i++) {
+        if (i == 0 || states[i] / 4 != states[i - 1] / 4) printf("%s %s", i == 0 ? "" : ",", names[states[i] / 4]);
+    }
+    printf("\n");
+    expect_done("triple", box_triple_is_consistent(BOX_NETWORK(network), 1, 3, 4, &through));
+    expect_done("triple", box_triple_is_consistent(BOX_NETWORK(network), 1, 3, 2, &back));
+    printf("  track 1, points, east line: %s; track 1, points, track 2: %s\n", through ? "yes" : "no", back ? "yes" : "no");
+}
+
+static void show_steps(const struct host *host, uint32_t number) {
+    uint32_t predecessor_rows[BOX_MAX_STEPS], predecessors[BOX_MAX_STEPS], rows[BOX_MAX_STEPS], candidates[BOX_MAX_STEPS];
+    double steps[BOX_MAX_STEPS];
+    size_t count;
+    struct row before, row;
+    expect_done("steps", box_list_steps(BOX_NETWORK(network), beta, scale, host->journal, WORDS, number, predecessor_rows,
+        BOX_MAX_STEPS, predecessors, BOX_MAX_STEPS, rows, BOX_MAX_STEPS, candidates, BOX_MAX_STEPS, steps, BOX_MAX_STEPS, &count));
+    for (size_t i = 0; i < count; i++) {
+        read_row(host, predecessor_rows[i], &before);
+        read_row(host, rows[i], &row);
+        printf("  step from row %u to %u, %s to %s: %.3f\n", (unsigned)predecessor_rows[i], (unsigned)rows[i],
+            names[before.elements[predecessors[i]]], names[row.elements[candidates[i]]], steps[i]);
+    }
+}
+
+static void show_path(const struct host *host) {
+    uint32_t rows[ROWS], candidates[ROWS];
+    double score;
+    size_t count;
+    struct row row;
+    expect_done("close", box_close(host->journal, WORDS, rows, ROWS, candidates, ROWS, &score, &count));
+    printf("  best path, score %.3f, of %u rows:\n", score, (unsigned)host->rows);
+    for (size_t i = 0; i < count; i++) {
+        read_row(host, rows[i], &row);
+        printf("    row %2u  %4.0f m  %-9s at %.3f\n", (unsigned)rows[i], host->metres[rows[i]],
+            names[row.elements[candidates[i]]], row.intrinsics[candidates[i]]);
+    }
+}
+
+static void show_segments(const struct box_segment *segments, size_t count) {
+    for (size_t i = 0; i < count; i++) {
+        printf("    %-9s from %.3f to %.3f, rows %u to %u\n", names[segments[i].element], segments[i].start_intrinsic,
+            segments[i].end_intrinsic, (unsigned)segments[i].first_row, (unsigned)segments[i].last_row);
+    }
+}
+
+static void show_decisions(const uint32_t *decisions, size_t count) {
+    for (const uint32_t *d = decisions; d < decisions + count * BOX_DECISION_WORDS; d += BOX_DECISION_WORDS) {
+        printf("    %s goes on over a span of %u rows; removed:", names[d[0]], (unsigned)d[1]);
+        for (uint32_t i = 0; i < d[2]; i++) printf("%s %s", i == 0 ? "" : ",", names[d[3 + i]]);
+        printf("\n");
+    }
+}
+
+/* ---- The drive. */
+
+int main(void) {
+    static struct host host;
+    struct box_segment segments[ROWS];
+    uint32_t decisions[ROWS * BOX_DECISION_WORDS];
+    size_t count, left, decided;
+
+    expect_done("network", box_check_network(BOX_NETWORK(network)));
+    printf("1. The network is accepted.\n");
+    show_route();
+
+    expect_done("open", box_open(host.journal, WORDS));
+    feed(&host, approach, sizeof approach / sizeof approach[0]);
+    feed(&host, at_the_portal, sizeof at_the_portal / sizeof at_the_portal[0]);
+    printf("2. Fed up to the far portal; rows 4 and 5 are in the tunnel.\n");
+    show_path(&host);
+
+    printf("3. Striking 9 rows is refused with %u: only %u stand.\n", (unsigned)box_strike(host.journal, WORDS, 9),
+        (unsigned)host.rows);
+    expect_done("strike", box_strike(host.journal, WORDS, 2));
+    host.rows -= 2;
+    feed(&host, onward, sizeof onward / sizeof onward[0]);
+    printf("4. The last two rows struck, worked out again, and fed to the end.\n");
+    show_path(&host);
+    show_steps(&host, 9);
+
+    expect_done("build", box_build_path(BOX_NETWORK(network), host.journal, WORDS, segments, ROWS, &count));
+    printf("5. The path as %u segments, bridges among them.\n", (unsigned)count);
+    show_segments(segments, count);
+
+    expect_done("collapse",
+        box_remove_oscillations(segments, count, decisions, count * BOX_DECISION_WORDS, &left, &decided));
+    printf("6. Collapsed: %u segments are left. Decisions: %u.\n", (unsigned)left, (unsigned)decided);
+    show_segments(segments, left);
+    show_decisions(decisions, decided);
+    return 0;
+}

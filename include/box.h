@@ -1,0 +1,187 @@
+/* Box decides which track a train is on: it is fed one position fix at a time and tells the best path. Document 01
+   says what each call computes; README.md has an overview, and examples/c/drive.c shows every step of a drive.
+
+   Link target/staticlib/libhost.a, which `rt staticlib host` writes for x86-64, and -lm.
+
+   Answers. Each call answers a number of `enum box_status`. Checks run in number order over what the call takes, and
+   the first that fails is the answer. Unless that is BOX_DONE, no memory is changed. A call that is done changes what
+   its comment names, and entries of a buffer past those it answers keep what they held.
+
+   Slices. A slice is a pointer and the number of its entries behind it; where that is 0 the pointer may be NULL. Where
+   a list is answered in several slices, it must fit into the shortest. What a call writes may not overlap anything
+   else that it is handed. Beyond that nothing is asked: every call ends, whatever numbers and words it is handed.
+
+   Memory. No call allocates, and nothing is kept between calls: what Box knows stands in the journal, words that the
+   host owns, and may copy, store and hand back. Threads may call at once, each on a journal of its own. No call uses
+   more stack than BOX_STACK_BYTES; README.md has the table. Floats are IEEE 754 binary64: the processor must round to
+   nearest and keep subnormals, as it does where nobody changed it. */
+#ifndef BOX_H
+#define BOX_H
+
+#include <stddef.h>
+#include <stdint.h>
+
+#ifdef __cplusplus
+extern "C" {
+#endif
+
+enum box_status {
+    BOX_DONE = 0,
+    BOX_REFUSED_COUNTS = 1,           /* too many elements or relations; headings not 4, or flags not 1, per element;
+                                         relation fields of unequal count */
+    BOX_REFUSED_LENGTH = 2,           /* an element's length is out of range */
+    BOX_REFUSED_HEADING = 3,          /* a heading is out of range */
+    BOX_REFUSED_SIDE = 4,             /* a relation's side is above 1 */
+    BOX_REFUSED_SELF_RELATION = 5,    /* a relation of an element with itself */
+    BOX_REFUSED_SETTING = 6,          /* beta or scale is out of range */
+    BOX_REFUSED_JOURNAL = 7,          /* the journal is not well formed */
+    BOX_REFUSED_CANDIDATE_COUNT = 8,  /* over 16 candidates, or candidate fields of unequal count */
+    BOX_REFUSED_CANDIDATE = 9,        /* an element that the network does not have, in the fix or in a standing row; a
+                                         candidate's field is out of range */
+    BOX_REFUSED_DISTANCES = 10,       /* the wrong number of distances, or one out of range */
+    BOX_REFUSED_ROW_LIMIT = 11,       /* 65,535 rows stand already */
+    BOX_REFUSED_ROOM = 12,            /* the journal's slice has too few words left */
+    BOX_REFUSED_ROW = 13,             /* more rows to strike than stand, or a row that does not stand */
+    BOX_REFUSED_SEGMENT = 14,         /* intrinsic outside 0 to 1, first row after last, or row above 65,534 */
+    BOX_REFUSED_BUFFER = 15,          /* the list is longer than a buffer; too few words for decisions */
+    BOX_NONE = 16                     /* there is no route, or no path */
+};
+
+/* Limits. NaN is outside every range. */
+#define BOX_MAX_ELEMENTS 1024
+#define BOX_MAX_RELATIONS 4096
+#define BOX_MAX_LENGTH 1048576.0     /* metres, from 0, sign bit clear */
+#define BOX_END_OF_HEADINGS 360.0    /* degrees, from 0, this one excluded */
+#define BOX_MIN_SETTING 0.001        /* beta may also be 0 */
+#define BOX_MAX_SETTING 1000000.0
+#define BOX_MAX_CANDIDATES 16
+#define BOX_MIN_RAW_LOG (-745.0)     /* up to 0; or minus infinity */
+#define BOX_MAX_DISTANCE 20100000.0  /* metres, from 0 */
+#define BOX_MAX_ROWS 65535
+#define BOX_MAX_STATES 4096          /* of a route */
+#define BOX_MAX_STEPS 256            /* into a row, and its distances */
+#define BOX_NO_PARENT 31
+#define BOX_DECISION_WORDS 6
+
+/* The words of a row's record: c candidates, on a predecessor of p (0 where the row has no distances). A journal needs
+   one word and those of each row. */
+#define BOX_RECORD_WORDS(c, p) (7 * (c) + 2 * (c) * (p) + 3)
+
+#define BOX_STACK_BYTES 131072 /* measured on x86-64 */
+
+/* The track network, nine slices in each call that takes it. Elements are numbered from 0 and have two ends, side 0 and
+   side 1. Headings are four per element, in degrees: out at side 0, out at side 1, in at side 0, in at side 1. A flag
+   is true unless 0; an element's is 0 where its geometry has under two points. Relation i joins from_side[i] of from[i]
+   to to_side[i] of to[i], passable forward, backward or both; one that names an element past the count is skipped. */
+struct box_network {
+    size_t elements;
+    const double *lengths;
+    const double *headings;
+    const uint32_t *flags;
+    size_t relations;
+    const uint32_t *from;
+    const uint32_t *to;
+    const uint32_t *from_side;
+    const uint32_t *to_side;
+    const uint32_t *forward;
+    const uint32_t *backward;
+};
+
+/* A `struct box_network` as the arguments of a call. */
+#define BOX_NETWORK(n) \
+    (n).lengths, (n).elements, (n).headings, 4 * (n).elements, (n).flags, (n).elements, (n).from, (n).relations, \
+    (n).to, (n).relations, (n).from_side, (n).relations, (n).to_side, (n).relations, (n).forward, (n).relations, \
+    (n).backward, (n).relations
+
+/* A part of the path: an element, from where to where on it (0 is side 0, 1 is side 1), and its rows. */
+struct box_segment {
+    uint32_t element;
+    double start_intrinsic;
+    double end_intrinsic;
+    uint32_t first_row;
+    uint32_t last_row;
+};
+
+#define BOX_NETWORK_PARAMETERS \
+    const double *lengths, size_t length_count, const double *headings, size_t heading_count, \
+    const uint32_t *flags, size_t flag_count, const uint32_t *from, size_t from_count, \
+    const uint32_t *to, size_t to_count, const uint32_t *from_side, size_t from_side_count, \
+    const uint32_t *to_side, size_t to_side_count, const uint32_t *forward, size_t forward_count, \
+    const uint32_t *backward, size_t backward_count
+
+/* ---- Network and routes. An element or side that the network does not have is unknown and not refused. */
+
+/* The checks that every call on a network makes. Refuses with 1 to 5. */
+uint32_t box_check_network(BOX_NETWORK_PARAMETERS);
+
+/* *cost: the cheapest route's, in metres. BOX_NONE where there is none or a side is unknown. Refuses with 1 to 5. */
+uint32_t box_shortest_path_distance(BOX_NETWORK_PARAMETERS, uint32_t start_element, uint32_t start_side,
+    uint32_t goal_element, uint32_t goal_side, double *cost);
+
+/* *cost as above, and the route's *count states from start to goal: 4 times element, plus 2 times side, plus 1 if
+   reached from another element. BOX_NONE as above. Refuses with 1 to 5, 15. */
+uint32_t box_shortest_path_route(BOX_NETWORK_PARAMETERS, uint32_t start_element, uint32_t start_side,
+    uint32_t goal_element, uint32_t goal_side, uint32_t *states, size_t state_room, double *cost, size_t *count);
+
+/* *consistent: 1 if elements a, b, c can be passed in this order without turning round on b, or two neighbours are
+   equal; otherwise 0. Refuses with 1 to 5. */
+uint32_t box_triple_is_consistent(BOX_NETWORK_PARAMETERS, uint32_t a, uint32_t b, uint32_t c, uint32_t *consistent);
+
+/* ---- Journal. A row stands for each fix that was fed and not struck, numbered from 0. */
+
+/* An empty journal, whatever the words were: word 0. Refuses with 12, an empty slice. */
+uint32_t box_open(uint32_t *journal, size_t journal_words);
+
+/* One more row: its record in the words past the used ones, then word 0. A candidate is an element, an intrinsic (0 to
+   1 from side 0, sign bit clear), near an end (1) or not (0), and the log of its emission. A fix may have none: a row
+   stands for it, too. `distances` has one for each pair of a candidate of the predecessor (outer) and an own one
+   (inner); the predecessor is the latest row with a finite score. Without one, or without candidates, there are none.
+   Refuses with 1 to 12. */
+uint32_t box_feed(BOX_NETWORK_PARAMETERS, double beta, double scale, uint32_t *journal, size_t journal_words,
+    const uint32_t *elements, size_t element_count, const double *intrinsics, size_t intrinsic_count,
+    const uint32_t *near_flags, size_t near_count, const double *raw_logs, size_t raw_log_count,
+    const double *distances, size_t distance_count);
+
+/* The last `rows` rows, empty ones counted, no longer stand: word 0. Refuses with 7, 13. */
+uint32_t box_strike(uint32_t *journal, size_t journal_words, uint32_t rows);
+
+/* The best path: *count pairs of a row and the number of its candidate, in row order, and its *score. BOX_NONE where no
+   row has a finite score. Refuses with 7, 15. */
+uint32_t box_close(const uint32_t *journal, size_t journal_words, uint32_t *rows, size_t row_room,
+    uint32_t *candidates, size_t candidate_room, double *score, size_t *count);
+
+/* A row as it was fed, with each candidate's parent (a candidate of the predecessor, or BOX_NO_PARENT) and score:
+   *candidates entries in six slices, and *candidates times *predecessor_candidates distances. Refuses with 7, 13, 15. */
+uint32_t box_read_row(const uint32_t *journal, size_t journal_words, uint32_t row,
+    uint32_t *elements, size_t element_room, double *intrinsics, size_t intrinsic_room,
+    uint32_t *near_flags, size_t near_room, double *raw_logs, size_t raw_log_room,
+    uint32_t *parents, size_t parent_room, double *scores, size_t score_room,
+    double *distances, size_t distance_room, size_t *candidates, size_t *predecessor_candidates);
+
+/* The possible steps into a row: *count entries of predecessor row, its candidate, the row, its candidate (outer) and
+   the step's score. Refuses with 1 to 7, 9, 13, 15. */
+uint32_t box_list_steps(BOX_NETWORK_PARAMETERS, double beta, double scale, const uint32_t *journal,
+    size_t journal_words, uint32_t row, uint32_t *predecessor_rows, size_t predecessor_row_room,
+    uint32_t *predecessor_candidates, size_t predecessor_candidate_room, uint32_t *rows, size_t row_room,
+    uint32_t *candidates, size_t candidate_room, double *steps, size_t step_room, size_t *count);
+
+/* ---- Segments. */
+
+/* The best path as *count segments, with those that bridge the gaps between elements; 0 where there is no path. Refuses
+   with 1 to 5, 7, 9, 15. */
+uint32_t box_build_path(BOX_NETWORK_PARAMETERS, const uint32_t *journal, size_t journal_words,
+    struct box_segment *segments, size_t segment_room, size_t *count);
+
+/* Takes short excursions to other elements out of the list: *left segments come first, the entries past them are zero.
+   *decided decisions of six words: the element, the rows' span, how many segments were removed (up to 3), and their
+   elements, 0 past them. `decisions` needs six words for each segment of the list. Refuses with 14, 15. */
+uint32_t box_remove_oscillations(struct box_segment *segments, size_t segment_count, uint32_t *decisions,
+    size_t decision_words, size_t *left, size_t *decided);
+
+#undef BOX_NETWORK_PARAMETERS
+
+#ifdef __cplusplus
+}
+#endif
+
+#endif

@@ -1,0 +1,267 @@
+/* What the calls answer through the header. `calls GROUP` says what differs, and exits with 1 if anything does:
+   refusals, each number from a smallest call, which changes nothing; limits, at them and past them; empty, slices without
+   entries; words, the journal of document 01's one fix. */
+#include "box.h"
+
+#include <math.h>
+#include <stdio.h>
+#include <string.h>
+
+static int failures;
+
+static void expect(const char *what, uint32_t answer, uint32_t expected) {
+    if (answer == expected) return;
+    printf("%s: %u, not %u\n", what, (unsigned)answer, (unsigned)expected);
+    failures++;
+}
+
+/* ---- Document 01's network, with room for one element and one relation too many. */
+
+enum { MOST_ELEMENTS = BOX_MAX_ELEMENTS + 1, MOST_RELATIONS = BOX_MAX_RELATIONS + 1 };
+
+static double lengths[MOST_ELEMENTS], headings[4 * MOST_ELEMENTS], beta, scale;
+static uint32_t flags[MOST_ELEMENTS], from[MOST_RELATIONS], to[MOST_RELATIONS], from_side[MOST_RELATIONS];
+static uint32_t to_side[MOST_RELATIONS], ways[MOST_RELATIONS];
+static struct box_network network = {3, lengths, headings, flags, 2, from, to, from_side, to_side, ways, ways};
+
+/* All that the calls may write. */
+enum { WORDS = 1 + BOX_RECORD_WORDS(BOX_MAX_CANDIDATES, BOX_MAX_CANDIDATES), ROOM = 8 };
+
+static struct lent {
+    uint32_t journal[WORDS], numbers[5][BOX_MAX_STEPS], decisions[6 * ROOM], consistent;
+    double floats[4][BOX_MAX_STEPS], value;
+    struct box_segment segments[ROOM];
+    size_t count, second;
+} lent;
+
+/* A fix. */
+static uint32_t elements[BOX_MAX_CANDIDATES + 1], near_flags[BOX_MAX_CANDIDATES + 1];
+static double intrinsics[BOX_MAX_CANDIDATES + 1], raw_logs[BOX_MAX_CANDIDATES + 1], distances[BOX_MAX_STEPS];
+
+static void start(void) {
+    static const double document_lengths[3] = {100, 50, 100};
+    memset(headings, 0, sizeof headings);
+    for (uint32_t i = 0; i < MOST_ELEMENTS; i++) lengths[i] = i < 3 ? document_lengths[i] : 0, flags[i] = 1;
+    for (uint32_t i = 0; i < MOST_RELATIONS; i++) {
+        from[i] = i % BOX_MAX_ELEMENTS, to[i] = from[i] + 1, from_side[i] = 1, to_side[i] = 0, ways[i] = 1;
+    }
+    network.elements = 3, network.relations = 2, beta = 10, scale = 30;
+    memset(&lent, 0xEE, sizeof lent);
+    memset(lent.segments, 0, sizeof lent.segments);
+    box_open(lent.journal, WORDS);
+    for (int i = 0; i <= BOX_MAX_CANDIDATES; i++) elements[i] = 0, near_flags[i] = 1, intrinsics[i] = 0.5, raw_logs[i] = -1;
+    memset(distances, 0, sizeof distances);
+}
+
+static uint32_t check(void) { return box_check_network(BOX_NETWORK(network)); }
+
+static uint32_t feed_into(size_t words, size_t candidates, size_t pairs) {
+    return box_feed(BOX_NETWORK(network), beta, scale, lent.journal, words, elements, candidates, intrinsics, candidates,
+        near_flags, candidates, raw_logs, candidates, distances, pairs);
+}
+
+static uint32_t feed(size_t candidates, size_t pairs) { return feed_into(WORDS, candidates, pairs); }
+
+static uint32_t strike(uint32_t rows) { return box_strike(lent.journal, WORDS, rows); }
+
+static uint32_t close_into(size_t room) {
+    return box_close(lent.journal, WORDS, lent.numbers[0], room, lent.numbers[1], room, &lent.value, &lent.count);
+}
+
+static uint32_t read_row(uint32_t row, size_t room) {
+    return box_read_row(lent.journal, WORDS, row, lent.numbers[0], room, lent.floats[0], room, lent.numbers[1], room,
+        lent.floats[1], room, lent.numbers[2], room, lent.floats[2], room, lent.floats[3], room, &lent.count, &lent.second);
+}
+
+static uint32_t list_steps(uint32_t row, size_t room) {
+    return box_list_steps(BOX_NETWORK(network), beta, scale, lent.journal, WORDS, row, lent.numbers[0], room,
+        lent.numbers[1], room, lent.numbers[2], room, lent.numbers[3], room, lent.floats[0], room, &lent.count);
+}
+
+static uint32_t build_into(size_t room) {
+    return box_build_path(BOX_NETWORK(network), lent.journal, WORDS, lent.segments, room, &lent.count);
+}
+
+static uint32_t collapse(size_t segments, size_t words) {
+    return box_remove_oscillations(lent.segments, segments, lent.decisions, words, &lent.count, &lent.second);
+}
+
+static uint32_t distance(uint32_t element, uint32_t side) {
+    return box_shortest_path_distance(BOX_NETWORK(network), 0, 0, element, side, &lent.value);
+}
+
+static uint32_t route_into(uint32_t element, size_t room) {
+    return box_shortest_path_route(BOX_NETWORK(network), 0, 0, element, 1, lent.numbers[0], room, &lent.value, &lent.count);
+}
+
+static uint32_t triple(void) { return box_triple_is_consistent(BOX_NETWORK(network), 0, 1, 2, &lent.consistent); }
+
+/* ---- refusals */
+
+/* After a start and what spoils it, the call answers this number, and all that was lent is as it was. */
+#define REFUSED(spoilt, call, number) \
+    do { \
+        struct lent before; \
+        start(), spoilt, memcpy(&before, &lent, sizeof lent); \
+        expect(#call " after " #spoilt, call, number); \
+        expect(#call " changes memory", memcmp(&before, &lent, sizeof lent) != 0, 0); \
+    } while (0)
+
+#define AS_IT_IS (void)0
+
+/* By every call that takes a network. */
+#define REFUSED_NETWORK(spoilt, number) \
+    do { \
+        REFUSED(spoilt, check(), number); \
+        REFUSED(spoilt, distance(2, 1), number); \
+        REFUSED(spoilt, route_into(2, 8), number); \
+        REFUSED(spoilt, triple(), number); \
+        REFUSED(spoilt, feed(1, 0), number); \
+        REFUSED(spoilt, list_steps(0, 8), number); \
+        REFUSED(spoilt, build_into(ROOM), number); \
+    } while (0)
+
+static void refusals(void) {
+    REFUSED_NETWORK(network.elements = MOST_ELEMENTS, BOX_REFUSED_COUNTS);
+    REFUSED_NETWORK(lengths[1] = -1, BOX_REFUSED_LENGTH);
+    REFUSED_NETWORK(headings[5] = 360, BOX_REFUSED_HEADING);
+    REFUSED_NETWORK(to_side[1] = 2, BOX_REFUSED_SIDE);
+    REFUSED_NETWORK(to[1] = 1, BOX_REFUSED_SELF_RELATION);
+    REFUSED(scale = 0, feed(1, 0), BOX_REFUSED_SETTING);
+    REFUSED(beta = NAN, list_steps(0, 8), BOX_REFUSED_SETTING);
+    REFUSED(lent.journal[0] = 0, feed(1, 0), BOX_REFUSED_JOURNAL);
+    REFUSED(lent.journal[0] = 0, strike(0), BOX_REFUSED_JOURNAL);
+    REFUSED(lent.journal[0] = 0, close_into(8), BOX_REFUSED_JOURNAL);
+    REFUSED(lent.journal[0] = 0, read_row(0, 8), BOX_REFUSED_JOURNAL);
+    REFUSED(lent.journal[0] = 0, list_steps(0, 8), BOX_REFUSED_JOURNAL);
+    REFUSED(lent.journal[0] = 0, build_into(ROOM), BOX_REFUSED_JOURNAL);
+    REFUSED(AS_IT_IS, feed(BOX_MAX_CANDIDATES + 1, 0), BOX_REFUSED_CANDIDATE_COUNT);
+    REFUSED(elements[0] = 3, feed(1, 0), BOX_REFUSED_CANDIDATE);
+    REFUSED((feed(1, 0), network.elements = 0), list_steps(0, 8), BOX_REFUSED_CANDIDATE);
+    REFUSED((feed(1, 0), network.elements = 0), build_into(ROOM), BOX_REFUSED_CANDIDATE);
+    REFUSED(AS_IT_IS, feed(1, 1), BOX_REFUSED_DISTANCES);
+    REFUSED(AS_IT_IS, feed_into(10, 1, 0), BOX_REFUSED_ROOM);
+    REFUSED(AS_IT_IS, box_open(lent.journal, 0), BOX_REFUSED_ROOM);
+    REFUSED(AS_IT_IS, strike(1), BOX_REFUSED_ROW);
+    REFUSED(AS_IT_IS, read_row(0, 8), BOX_REFUSED_ROW);
+    REFUSED(AS_IT_IS, list_steps(0, 8), BOX_REFUSED_ROW);
+    REFUSED(lent.segments[0].first_row = 1, collapse(1, 6), BOX_REFUSED_SEGMENT);
+    REFUSED(lent.segments[0].end_intrinsic = 1.5, collapse(1, 6), BOX_REFUSED_SEGMENT);
+    REFUSED(AS_IT_IS, collapse(1, 5), BOX_REFUSED_BUFFER);
+    REFUSED(AS_IT_IS, route_into(2, 5), BOX_REFUSED_BUFFER);
+    REFUSED(feed(1, 0), close_into(0), BOX_REFUSED_BUFFER);
+    REFUSED(feed(1, 0), read_row(0, 0), BOX_REFUSED_BUFFER);
+    REFUSED((feed(1, 0), feed(1, 1)), list_steps(1, 0), BOX_REFUSED_BUFFER);
+    REFUSED(feed(1, 0), build_into(0), BOX_REFUSED_BUFFER);
+    REFUSED(AS_IT_IS, distance(3, 0), BOX_NONE);
+    REFUSED(AS_IT_IS, route_into(3, 8), BOX_NONE);
+    REFUSED(AS_IT_IS, close_into(8), BOX_NONE);
+}
+
+/* ---- limits */
+
+/* What a spoilt value refuses, and its limit does not. */
+#define LIMIT(name, place, at, past, call, number) \
+    do { \
+        start(), place = (at); \
+        expect(name " at its limit", call, BOX_DONE); \
+        start(), place = (past); \
+        expect(name " past its limit", call, number); \
+    } while (0)
+
+/* 65,535 rows without candidates: three words each. */
+static void row_limit(void) {
+    static uint32_t journal[1 + 3 * (BOX_MAX_ROWS + 1)];
+    static const uint32_t record[3] = {0x10000000, 0x30000000, 0x40000003};
+    start();
+    for (size_t row = 0; row < BOX_MAX_ROWS; row++) memcpy(journal + 1 + 3 * row, record, sizeof record);
+    journal[0] = 0x50000000 + 1 + 3 * BOX_MAX_ROWS;
+    size_t words = sizeof journal / sizeof journal[0];
+    expect("one row too many", box_feed(BOX_NETWORK(network), beta, scale, journal, words, NULL, 0, NULL, 0, NULL, 0, NULL, 0,
+        NULL, 0), BOX_REFUSED_ROW_LIMIT);
+    expect("one row struck", box_strike(journal, words, 1), BOX_DONE);
+    expect("the last row", box_feed(BOX_NETWORK(network), beta, scale, journal, words, NULL, 0, NULL, 0, NULL, 0, NULL, 0, NULL,
+        0), BOX_DONE);
+}
+
+static void limits(void) {
+    LIMIT("elements", network.elements, BOX_MAX_ELEMENTS, BOX_MAX_ELEMENTS + 1, check(), BOX_REFUSED_COUNTS);
+    LIMIT("relations", network.relations, BOX_MAX_RELATIONS, BOX_MAX_RELATIONS + 1, check(), BOX_REFUSED_COUNTS);
+    LIMIT("length", lengths[2], BOX_MAX_LENGTH, nextafter(BOX_MAX_LENGTH, INFINITY), check(), BOX_REFUSED_LENGTH);
+    LIMIT("least length", lengths[2], 0.0, -0.0, check(), BOX_REFUSED_LENGTH);
+    LIMIT("heading", headings[11], nextafter(BOX_END_OF_HEADINGS, 0), BOX_END_OF_HEADINGS, check(), BOX_REFUSED_HEADING);
+    LIMIT("least beta", beta, BOX_MIN_SETTING, nextafter(BOX_MIN_SETTING, 0), feed(1, 0), BOX_REFUSED_SETTING);
+    LIMIT("beta of 0", beta, 0, -1, feed(1, 0), BOX_REFUSED_SETTING);
+    LIMIT("beta", beta, BOX_MAX_SETTING, nextafter(BOX_MAX_SETTING, INFINITY), feed(1, 0), BOX_REFUSED_SETTING);
+    LIMIT("least scale", scale, BOX_MIN_SETTING, nextafter(BOX_MIN_SETTING, 0), feed(1, 0), BOX_REFUSED_SETTING);
+    LIMIT("scale", scale, BOX_MAX_SETTING, nextafter(BOX_MAX_SETTING, INFINITY), feed(1, 0), BOX_REFUSED_SETTING);
+    LIMIT("raw log", raw_logs[0], BOX_MIN_RAW_LOG, nextafter(BOX_MIN_RAW_LOG, -INFINITY), feed(1, 0), BOX_REFUSED_CANDIDATE);
+    LIMIT("no raw log", raw_logs[0], -INFINITY, NAN, feed(1, 0), BOX_REFUSED_CANDIDATE);
+    LIMIT("intrinsic", intrinsics[0], 1, nextafter(1, 2), feed(1, 0), BOX_REFUSED_CANDIDATE);
+    LIMIT("near flag", near_flags[0], 1, 2, feed(1, 0), BOX_REFUSED_CANDIDATE);
+    LIMIT("distance", distances[0], BOX_MAX_DISTANCE, nextafter(BOX_MAX_DISTANCE, INFINITY), (feed(1, 0), feed(1, 1)),
+        BOX_REFUSED_DISTANCES);
+    LIMIT("a segment's row", lent.segments[0].last_row, BOX_MAX_ROWS - 1, BOX_MAX_ROWS, collapse(1, BOX_DECISION_WORDS),
+        BOX_REFUSED_SEGMENT);
+    start();
+    expect("16 candidates", feed(BOX_MAX_CANDIDATES, 0), BOX_DONE);
+    expect("no predecessor", lent.journal[0], 0x50000000 + 1 + BOX_RECORD_WORDS(BOX_MAX_CANDIDATES, 0));
+    expect("parent", read_row(0, BOX_MAX_CANDIDATES) == BOX_DONE && lent.numbers[2][15] == BOX_NO_PARENT, 1);
+    start();
+    expect("exact room", feed_into(1 + BOX_RECORD_WORDS(1, 0), 1, 0), BOX_DONE);
+    expect("a word too few", feed_into(BOX_RECORD_WORDS(1, 0) + BOX_RECORD_WORDS(2, 1), 2, 2), BOX_REFUSED_ROOM);
+    expect("exact room", feed_into(1 + BOX_RECORD_WORDS(1, 0) + BOX_RECORD_WORDS(2, 1), 2, 2), BOX_DONE);
+    row_limit();
+}
+
+/* ---- empty */
+
+static void empty(void) {
+    uint32_t word;
+    size_t count = 9, second = 9;
+    double value = 9;
+    start();
+#define NOTHING NULL, 0, NULL, 0, NULL, 0, NULL, 0, NULL, 0, NULL, 0, NULL, 0, NULL, 0, NULL, 0
+    expect("network", box_check_network(NOTHING), BOX_DONE);
+    expect("route", box_shortest_path_route(NOTHING, 0, 0, 0, 0, NULL, 0, &value, &count), BOX_NONE);
+    expect("open", box_open(NULL, 0), BOX_REFUSED_ROOM);
+    expect("open", box_open(&word, 1), BOX_DONE);
+    expect("feed", box_feed(NOTHING, 1, 1, &word, 1, NULL, 0, NULL, 0, NULL, 0, NULL, 0, NULL, 0), BOX_REFUSED_ROOM);
+    expect("close", box_close(&word, 1, NULL, 0, NULL, 0, &value, &count), BOX_NONE);
+    expect("close", box_close(NULL, 0, NULL, 0, NULL, 0, &value, &count), BOX_REFUSED_JOURNAL);
+    expect("values kept", value == 9 && count == 9, 1);
+    expect("build", box_build_path(NOTHING, &word, 1, NULL, 0, &count), BOX_DONE);
+    expect("no segments", count == 0, 1);
+    expect("collapse", box_remove_oscillations(NULL, 0, NULL, 0, &count, &second), BOX_DONE);
+    expect("no decisions", count == 0 && second == 0, 1);
+    expect("a row without candidates", feed_into(4, 0, 0), BOX_DONE);
+    expect("read", box_read_row(lent.journal, 4, 0, NULL, 0, NULL, 0, NULL, 0, NULL, 0, NULL, 0, NULL, 0, NULL, 0, &count,
+        &second), BOX_DONE);
+    expect("steps", box_list_steps(BOX_NETWORK(network), 1, 1, lent.journal, 4, 0, NULL, 0, NULL, 0, NULL, 0, NULL, 0, NULL, 0,
+        &count), BOX_DONE);
+    expect("no steps", count == 0 && second == 0, 1);
+}
+
+/* ---- words */
+
+static void words(void) {
+    static const uint32_t document[11] = {
+        0x5000000B, 0x10000001, 0x2000FC00, 0x3FE00000, 0, 0xBFF00000, 0, 0xBFF00000, 0, 0x30000000, 0x4000000A,
+    };
+    start();
+    expect("feed", feed(1, 0), BOX_DONE);
+    expect("document 01's words", memcmp(lent.journal, document, sizeof document) == 0, 1);
+    expect("the word past them", lent.journal[11], 0xEEEEEEEE);
+}
+
+int main(int count, char **arguments) {
+    static const struct { const char *name; void (*run)(void); } groups[] = {
+        {"refusals", refusals}, {"limits", limits}, {"empty", empty}, {"words", words},
+    };
+    size_t run = 0;
+    for (size_t i = 0; i < sizeof groups / sizeof groups[0]; i++) {
+        if (count == 2 && strcmp(arguments[1], groups[i].name) == 0) groups[i].run(), run++;
+    }
+    if (run != 1) printf("usage: calls refusals|limits|empty|words\n");
+    return run != 1 || failures != 0;
+}

@@ -1,0 +1,19 @@
+/* The header, included twice, and the layout that the archive is built for. Compiled as C and as C++. */
+#include "box.h"
+#include "box.h"
+
+#define HOLDS(name, fact) typedef char name[(fact) ? 1 : -1]
+
+HOLDS(numbers, sizeof(uint32_t) == 4 && sizeof(double) == 8 && sizeof(size_t) == 8);
+HOLDS(segment, sizeof(struct box_segment) == 32);
+HOLDS(element, offsetof(struct box_segment, element) == 0);
+HOLDS(start, offsetof(struct box_segment, start_intrinsic) == 8);
+HOLDS(end, offsetof(struct box_segment, end_intrinsic) == 16);
+HOLDS(first_row, offsetof(struct box_segment, first_row) == 24);
+HOLDS(last_row, offsetof(struct box_segment, last_row) == 28);
+
+uint32_t check(struct box_network network);
+
+uint32_t check(struct box_network network) {
+    return box_check_network(BOX_NETWORK(network));
+}
