@@ -6,7 +6,7 @@ pub const FILL: u32 = 4294967295;
 
 // The float with the bits FFEFFFFFFFFFFFFF: the least one that is finite.
 pub fn fill_float() -> f64 {
-    f64::from_bits(0xFFEF_FFFF_FFFF_FFFF)
+    -1.7976931348623157e308
 }
 
 pub fn same_float(x: f64, y: f64) -> bool {

@@ -5,54 +5,36 @@ use crate::host::SLICES;
 use crate::host::WHOLE;
 use crate::network::FLOATS;
 use crate::network::NUMBERS;
-ghost use mathlib.Core.Path.{_≡_};
-ghost use lib.ListN.{length};
 
 // A stretch of the input: twice a line's room.
-pub fn text() -> [u8; 2097152]
-    ensures { λ r. ⌜ 2097152 ≡ length r ⌝ }
-{
+pub fn text() -> [u8; 2097152] {
     [0u8; 2097152]
 }
 
-pub fn network_floats() -> [f64; FLOATS]
-    ensures { λ r. ⌜ 5500 ≡ length r ⌝ }
-{
+pub fn network_floats() -> [f64; FLOATS] {
     [0.0; FLOATS]
 }
 
-pub fn network_numbers() -> [u32; NUMBERS]
-    ensures { λ r. ⌜ 26300 ≡ length r ⌝ }
-{
+pub fn network_numbers() -> [u32; NUMBERS] {
     [0u32; NUMBERS]
 }
 
-pub fn journal() -> [u32; 262144]
-    ensures { λ r. ⌜ 262144 ≡ length r ⌝ }
-{
+pub fn journal() -> [u32; 262144] {
     [0u32; 262144]
 }
 
-pub fn cuts() -> [u32; SLICES]
-    ensures { λ r. ⌜ 16 ≡ length r ⌝ }
-{
+pub fn cuts() -> [u32; SLICES] {
     [WHOLE; SLICES]
 }
 
-pub fn held_numbers() -> [u32; HELD_NUMBERS]
-    ensures { λ r. ⌜ 12288 ≡ length r ⌝ }
-{
+pub fn held_numbers() -> [u32; HELD_NUMBERS] {
     [0u32; HELD_NUMBERS]
 }
 
-pub fn held_intrinsics() -> [f64; HELD_INTRINSICS]
-    ensures { λ r. ⌜ 8192 ≡ length r ⌝ }
-{
+pub fn held_intrinsics() -> [f64; HELD_INTRINSICS] {
     [0.0; HELD_INTRINSICS]
 }
 
-pub fn out() -> [u8; 65536]
-    ensures { λ r. ⌜ 65536 ≡ length r ⌝ }
-{
+pub fn out() -> [u8; 65536] {
     [0u8; 65536]
 }

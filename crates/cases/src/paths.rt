@@ -41,6 +41,7 @@ use closing::close::Closing;
 use closing::close::close;
 use closing::row::RowRead;
 use closing::row::read_row;
+use journal::record::distance_count;
 use steps::list::StepsListed;
 use steps::list::list_steps;
 use text::cursor::take_number;
@@ -197,10 +198,12 @@ fn candidate_count(answer: RowRead) -> usize {
     }
 }
 
-fn distance_count(answer: RowRead) -> usize {
+fn apart_count(answer: RowRead) -> usize {
     match answer {
         RowRead::Refused(_) => 0,
-        RowRead::Row(count, before) => least(count, CANDIDATES) * least(before, CANDIDATES),
+        RowRead::Row(count, before) => {
+            distance_count(least(count, CANDIDATES), least(before, CANDIDATES))
+        }
     }
 }
 
@@ -232,7 +235,7 @@ fn tell_row(
     distances: &[f64],
 ) -> Host {
     let n = candidate_count(answer);
-    let m = distance_count(answer);
+    let m = apart_count(answer);
     let start = print_row(out, h.out, answer);
     let next = print_candidates(
         out,

@@ -1,6 +1,6 @@
 -- `cases::building::built_kept` meets its contract. Assumes nothing.
 use Prim.Native.Nat.{_-_}
-use borrow.Author.Needs.{needs}
+use native.Mathlib.Omega.{arith}
 use Rattle.cases.proofs.building.built_kept.Statement.{statement}
 use Rattle.cases.proofs.building.built_kept.Tie as tie
 
@@ -11,34 +11,34 @@ abbrev μ-loop : tie.MeasureT-loop
 μ-loop n list k₀ k = 4096 - k
 
 loop-holds : tie.Need-loop-holds Inv-loop μ-loop
-loop-holds c = search needs
+loop-holds c = tt
 
 mul-same-segment : tie.Need-mul-same-segment Inv-loop μ-loop
-mul-same-segment c = search needs
+mul-same-segment c = omega arith
 
 array-copy-out-same-segment : tie.Need-array-copy-out-same-segment Inv-loop μ-loop
-array-copy-out-same-segment c = search needs
+array-copy-out-same-segment c = omega arith
 
 fill-segment-requires : tie.Need-fill-segment-requires Inv-loop μ-loop
-fill-segment-requires c κs = search needs
+fill-segment-requires c κs = tt
 
 same-segment-requires : tie.Need-same-segment-requires Inv-loop μ-loop
-same-segment-requires c κs = search needs
+same-segment-requires c κs = tt
 
 returns : tie.Need-returns Inv-loop μ-loop
-returns c = search needs
+returns c = tt
 
 add-k : tie.Need-add-k Inv-loop μ-loop
-add-k c = search needs
+add-k c = omega arith
 
 loop-less : tie.Need-loop-less Inv-loop μ-loop
-loop-less c = search needs
+loop-less c = omega arith
 
 loop-again : tie.Need-loop-again Inv-loop μ-loop
-loop-again c = search needs
+loop-again c = tt
 
 returns-2 : tie.Need-returns-2 Inv-loop μ-loop
-returns-2 c = search needs
+returns-2 c = tt
 
 pub built-kept-spec : {M : Type 1} → statement M
 built-kept-spec =

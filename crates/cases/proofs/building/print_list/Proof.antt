@@ -1,8 +1,8 @@
 -- `cases::building::print_list` meets its contract. Assumes nothing.
 use Prim.Native.Nat.{_-_}
-use mathlib.Core.Path.{_≡_}
+use mathlib.Core.Path.{_≡_, refl}
 use lib.ListN.{length}
-use borrow.Author.Needs.{needs}
+use native.Mathlib.Omega.{arith}
 use Rattle.cases.proofs.building.print_list.Statement.{statement}
 use Rattle.cases.proofs.building.print_list.Tie as tie
 
@@ -13,34 +13,34 @@ abbrev μ-loop : tie.MeasureT-loop
 μ-loop out₀ start n list m at₀ k₀ out at k = m - k
 
 least-requires : tie.Need-least-requires Inv-loop μ-loop
-least-requires c κs = search needs
+least-requires c κs = tt
 
 loop-holds : tie.Need-loop-holds Inv-loop μ-loop
-loop-holds c = search needs
+loop-holds c = refl
 
 mul-print-segment : tie.Need-mul-print-segment Inv-loop μ-loop
-mul-print-segment c = search needs
+mul-print-segment c = omega arith
 
 array-copy-out-print-segment : tie.Need-array-copy-out-print-segment Inv-loop μ-loop
-array-copy-out-print-segment c = search needs
+array-copy-out-print-segment c = omega arith
 
 print-segment-requires : tie.Need-print-segment-requires Inv-loop μ-loop
-print-segment-requires c κs = search needs
+print-segment-requires c κs = tt
 
 add-k : tie.Need-add-k Inv-loop μ-loop
-add-k c = search needs
+add-k c = omega arith
 
 loop-less : tie.Need-loop-less Inv-loop μ-loop
-loop-less c = search needs
+loop-less c = omega arith
 
 loop-again : tie.Need-loop-again Inv-loop μ-loop
-loop-again c = search needs
+loop-again c = omega arith
 
 same-length : tie.Need-same-length Inv-loop μ-loop
-same-length c = search needs
+same-length c = omega arith
 
 returns : tie.Need-returns Inv-loop μ-loop
-returns c = search needs
+returns c = tt
 
 pub print-list-spec : {M : Type 1} → statement M
 print-list-spec =

@@ -1,6 +1,6 @@
 -- `cases::collapsing::list_kept` meets its contract. Assumes nothing.
 use Prim.Native.Nat.{_-_}
-use borrow.Author.Needs.{needs}
+use native.Mathlib.Omega.{arith}
 use Rattle.cases.proofs.collapsing.list_kept.Statement.{statement}
 use Rattle.cases.proofs.collapsing.list_kept.Tie as tie
 
@@ -11,37 +11,37 @@ abbrev μ-loop : tie.MeasureT-loop
 μ-loop n count before after k₀ k = 4096 - k
 
 loop-holds : tie.Need-loop-holds Inv-loop μ-loop
-loop-holds c = search needs
+loop-holds c = tt
 
 mul-is-left : tie.Need-mul-is-left Inv-loop μ-loop
-mul-is-left c = search needs
+mul-is-left c = omega arith
 
 array-copy-out-is-left : tie.Need-array-copy-out-is-left Inv-loop μ-loop
-array-copy-out-is-left c = search needs
+array-copy-out-is-left c = omega arith
 
 mul-is-left-2 : tie.Need-mul-is-left-2 Inv-loop μ-loop
-mul-is-left-2 c = search needs
+mul-is-left-2 c = omega arith
 
 array-copy-out-is-left-2 : tie.Need-array-copy-out-is-left-2 Inv-loop μ-loop
-array-copy-out-is-left-2 c = search needs
+array-copy-out-is-left-2 c = omega arith
 
 is-left-requires : tie.Need-is-left-requires Inv-loop μ-loop
-is-left-requires c κs = search needs
+is-left-requires c κs = tt
 
 returns : tie.Need-returns Inv-loop μ-loop
-returns c = search needs
+returns c = tt
 
 add-k : tie.Need-add-k Inv-loop μ-loop
-add-k c = search needs
+add-k c = omega arith
 
 loop-less : tie.Need-loop-less Inv-loop μ-loop
-loop-less c = search needs
+loop-less c = omega arith
 
 loop-again : tie.Need-loop-again Inv-loop μ-loop
-loop-again c = search needs
+loop-again c = tt
 
 returns-2 : tie.Need-returns-2 Inv-loop μ-loop
-returns-2 c = search needs
+returns-2 c = tt
 
 pub list-kept-spec : {M : Type 1} → statement M
 list-kept-spec =

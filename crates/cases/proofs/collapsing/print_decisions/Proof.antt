@@ -1,8 +1,8 @@
 -- `cases::collapsing::print_decisions` meets its contract. Assumes nothing.
 use Prim.Native.Nat.{_-_}
-use mathlib.Core.Path.{_≡_}
+use mathlib.Core.Path.{_≡_, refl}
 use lib.ListN.{length}
-use borrow.Author.Needs.{needs}
+use native.Mathlib.Omega.{arith}
 use Rattle.cases.proofs.collapsing.print_decisions.Statement.{statement}
 use Rattle.cases.proofs.collapsing.print_decisions.Tie as tie
 
@@ -13,34 +13,34 @@ abbrev μ-loop : tie.MeasureT-loop
 μ-loop out₀ start words n m at₀ k₀ out at k = m - k
 
 least-requires : tie.Need-least-requires Inv-loop μ-loop
-least-requires c κs = search needs
+least-requires c κs = tt
 
 loop-holds : tie.Need-loop-holds Inv-loop μ-loop
-loop-holds c = search needs
+loop-holds c = refl
 
 mul-numbers-at : tie.Need-mul-numbers-at Inv-loop μ-loop
-mul-numbers-at c = search needs
+mul-numbers-at c = omega arith
 
 numbers-at-requires : tie.Need-numbers-at-requires Inv-loop μ-loop
-numbers-at-requires c κs = search needs
+numbers-at-requires c κs = tt
 
 print-decision-requires : tie.Need-print-decision-requires Inv-loop μ-loop
-print-decision-requires c κs = search needs
+print-decision-requires c κs = tt
 
 add-k : tie.Need-add-k Inv-loop μ-loop
-add-k c = search needs
+add-k c = omega arith
 
 loop-less : tie.Need-loop-less Inv-loop μ-loop
-loop-less c = search needs
+loop-less c = omega arith
 
 loop-again : tie.Need-loop-again Inv-loop μ-loop
-loop-again c = search needs
+loop-again c = omega arith
 
 same-length : tie.Need-same-length Inv-loop μ-loop
-same-length c = search needs
+same-length c = omega arith
 
 returns : tie.Need-returns Inv-loop μ-loop
-returns c = search needs
+returns c = tt
 
 pub print-decisions-spec : {M : Type 1} → statement M
 print-decisions-spec =

@@ -1,8 +1,8 @@
 -- `cases::drive::fill_words` meets its contract. Assumes nothing.
 use Prim.Native.Nat.{_-_}
-use mathlib.Core.Path.{_≡_}
-use lib.ListN.{length}
-use borrow.Author.Needs.{needs}
+use mathlib.Core.Path.{_≡_, refl}
+use lib.ListN.{length, length-set}
+use native.Mathlib.Omega.{arith}
 use Rattle.cases.proofs.drive.fill_words.Statement.{statement}
 use Rattle.cases.proofs.drive.fill_words.Tie as tie
 
@@ -13,28 +13,28 @@ abbrev μ-loop : tie.MeasureT-loop
 μ-loop journal₀ k₀ k-end journal k = k-end - k
 
 loop-holds : tie.Need-loop-holds Inv-loop μ-loop
-loop-holds c = search needs
+loop-holds c = refl
 
 mul-journal : tie.Need-mul-journal Inv-loop μ-loop
-mul-journal c = search needs
+mul-journal c = omega arith
 
 slice-write-journal : tie.Need-slice-write-journal Inv-loop μ-loop
-slice-write-journal c = search needs
+slice-write-journal c = omega arith
 
 add-k : tie.Need-add-k Inv-loop μ-loop
-add-k c = search needs
+add-k c = omega arith
 
 loop-less : tie.Need-loop-less Inv-loop μ-loop
-loop-less c = search needs
+loop-less c = omega arith
 
 loop-again : tie.Need-loop-again Inv-loop μ-loop
-loop-again c = search needs
+loop-again c = simp length-set (omega arith)
 
 same-length : tie.Need-same-length Inv-loop μ-loop
-same-length c = search needs
+same-length c = omega arith
 
 returns : tie.Need-returns Inv-loop μ-loop
-returns c = search needs
+returns c = tt
 
 pub fill-words-spec : {M : Type 1} → statement M
 fill-words-spec =

@@ -1,6 +1,6 @@
 -- `cases::fill::floats_kept` meets its contract. Assumes nothing.
 use Prim.Native.Nat.{_-_}
-use borrow.Author.Needs.{needs}
+use native.Mathlib.Omega.{arith}
 use Rattle.cases.proofs.fill.floats_kept.Statement.{statement}
 use Rattle.cases.proofs.fill.floats_kept.Tie as tie
 
@@ -11,34 +11,34 @@ abbrev μ-loop : tie.MeasureT-loop
 μ-loop buffer n k₀ k-end k = k-end - k
 
 loop-holds : tie.Need-loop-holds Inv-loop μ-loop
-loop-holds c = search needs
+loop-holds c = tt
 
 mul-same-float : tie.Need-mul-same-float Inv-loop μ-loop
-mul-same-float c = search needs
+mul-same-float c = omega arith
 
 shared-slice-read-same-float : tie.Need-shared-slice-read-same-float Inv-loop μ-loop
-shared-slice-read-same-float c = search needs
+shared-slice-read-same-float c = omega arith
 
 fill-float-requires : tie.Need-fill-float-requires Inv-loop μ-loop
-fill-float-requires c κs = search needs
+fill-float-requires c κs = tt
 
 same-float-requires : tie.Need-same-float-requires Inv-loop μ-loop
-same-float-requires c κs = search needs
+same-float-requires c κs = tt
 
 returns : tie.Need-returns Inv-loop μ-loop
-returns c = search needs
+returns c = tt
 
 add-k : tie.Need-add-k Inv-loop μ-loop
-add-k c = search needs
+add-k c = omega arith
 
 loop-less : tie.Need-loop-less Inv-loop μ-loop
-loop-less c = search needs
+loop-less c = omega arith
 
 loop-again : tie.Need-loop-again Inv-loop μ-loop
-loop-again c = search needs
+loop-again c = tt
 
 returns-2 : tie.Need-returns-2 Inv-loop μ-loop
-returns-2 c = search needs
+returns-2 c = tt
 
 pub floats-kept-spec : {M : Type 1} → statement M
 floats-kept-spec =

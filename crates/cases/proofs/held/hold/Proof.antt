@@ -1,8 +1,8 @@
 -- `cases::held::hold` meets its contract. Assumes nothing.
 use Prim.Native.Nat.{_-_}
-use mathlib.Core.Path.{_≡_}
+use mathlib.Core.Path.{_≡_, refl}
 use lib.ListN.{length}
-use borrow.Author.Needs.{needs}
+use native.Mathlib.Omega.{arith}
 use Rattle.cases.proofs.held.hold.Statement.{statement}
 use Rattle.cases.proofs.held.hold.Tie as tie
 
@@ -13,37 +13,37 @@ abbrev μ-loop : tie.MeasureT-loop
 μ-loop n numbers₀ intrinsics₀ list m k₀ numbers intrinsics k = m - k
 
 least-requires : tie.Need-least-requires Inv-loop μ-loop
-least-requires c κs = search needs
+least-requires c κs = tt
 
 loop-holds : tie.Need-loop-holds Inv-loop μ-loop
-loop-holds c = search needs
+loop-holds c = (refl, refl)
 
 mul-hold-segment : tie.Need-mul-hold-segment Inv-loop μ-loop
-mul-hold-segment c = search needs
+mul-hold-segment c = omega arith
 
 array-copy-out-hold-segment : tie.Need-array-copy-out-hold-segment Inv-loop μ-loop
-array-copy-out-hold-segment c = search needs
+array-copy-out-hold-segment c = omega arith
 
 hold-segment-requires : tie.Need-hold-segment-requires Inv-loop μ-loop
-hold-segment-requires c κs = search needs
+hold-segment-requires c κs = tt
 
 add-k : tie.Need-add-k Inv-loop μ-loop
-add-k c = search needs
+add-k c = omega arith
 
 loop-less : tie.Need-loop-less Inv-loop μ-loop
-loop-less c = search needs
+loop-less c = omega arith
 
 loop-again : tie.Need-loop-again Inv-loop μ-loop
-loop-again c = search needs
+loop-again c = (omega arith, omega arith)
 
 same-length : tie.Need-same-length Inv-loop μ-loop
-same-length c = search needs
+same-length c = omega arith
 
 same-length-2 : tie.Need-same-length-2 Inv-loop μ-loop
-same-length-2 c = search needs
+same-length-2 c = omega arith
 
 returns : tie.Need-returns Inv-loop μ-loop
-returns c = search needs
+returns c = tt
 
 pub hold-spec : {M : Type 1} → statement M
 hold-spec =

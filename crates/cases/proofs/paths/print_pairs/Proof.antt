@@ -1,8 +1,8 @@
 -- `cases::paths::print_pairs` meets its contract. Assumes nothing.
 use Prim.Native.Nat.{_-_}
-use mathlib.Core.Path.{_≡_}
+use mathlib.Core.Path.{_≡_, refl}
 use lib.ListN.{length}
-use borrow.Author.Needs.{needs}
+use native.Mathlib.Omega.{arith}
 use Rattle.cases.proofs.paths.print_pairs.Statement.{statement}
 use Rattle.cases.proofs.paths.print_pairs.Tie as tie
 
@@ -13,40 +13,40 @@ abbrev μ-loop : tie.MeasureT-loop
 μ-loop out₀ start rows candidates n at₀ k₀ out at k = n - k
 
 least-requires : tie.Need-least-requires Inv-loop μ-loop
-least-requires c κs = search needs
+least-requires c κs = tt
 
 loop-holds : tie.Need-loop-holds Inv-loop μ-loop
-loop-holds c = search needs
+loop-holds c = refl
 
 mul-print-pair : tie.Need-mul-print-pair Inv-loop μ-loop
-mul-print-pair c = search needs
+mul-print-pair c = omega arith
 
 shared-slice-read-print-pair : tie.Need-shared-slice-read-print-pair Inv-loop μ-loop
-shared-slice-read-print-pair c = search needs
+shared-slice-read-print-pair c = omega arith
 
 mul-print-pair-2 : tie.Need-mul-print-pair-2 Inv-loop μ-loop
-mul-print-pair-2 c = search needs
+mul-print-pair-2 c = omega arith
 
 shared-slice-read-print-pair-2 : tie.Need-shared-slice-read-print-pair-2 Inv-loop μ-loop
-shared-slice-read-print-pair-2 c = search needs
+shared-slice-read-print-pair-2 c = omega arith
 
 print-pair-requires : tie.Need-print-pair-requires Inv-loop μ-loop
-print-pair-requires c κs = search needs
+print-pair-requires c κs = tt
 
 add-k : tie.Need-add-k Inv-loop μ-loop
-add-k c = search needs
+add-k c = omega arith
 
 loop-less : tie.Need-loop-less Inv-loop μ-loop
-loop-less c = search needs
+loop-less c = omega arith
 
 loop-again : tie.Need-loop-again Inv-loop μ-loop
-loop-again c = search needs
+loop-again c = omega arith
 
 same-length : tie.Need-same-length Inv-loop μ-loop
-same-length c = search needs
+same-length c = omega arith
 
 returns : tie.Need-returns Inv-loop μ-loop
-returns c = search needs
+returns c = tt
 
 pub print-pairs-spec : {M : Type 1} → statement M
 print-pairs-spec =

@@ -1,8 +1,8 @@
 -- `cases::routes::answer_routes` meets its contract. Assumes nothing.
 use Prim.Native.Nat.{_-_}
-use mathlib.Core.Path.{_≡_}
+use mathlib.Core.Path.{_≡_, refl}
 use lib.ListN.{length}
-use borrow.Author.Needs.{needs}
+use native.Mathlib.Omega.{arith}
 use Rattle.cases.proofs.routes.answer_routes.Statement.{statement}
 use Rattle.cases.proofs.routes.answer_routes.Tie as tie
 
@@ -13,37 +13,37 @@ abbrev μ-loop : tie.MeasureT-loop
 μ-loop floats numbers cuts₀ out₀ nodes r₀ start₀ cuts out r start = nodes - start
 
 least-requires : tie.Need-least-requires Inv-loop μ-loop
-least-requires c κs = search needs
+least-requires c κs = tt
 
 cast-nodes : tie.Need-cast-nodes Inv-loop μ-loop
-cast-nodes c = search needs
+cast-nodes c = omega arith
 
 mul-nodes : tie.Need-mul-nodes Inv-loop μ-loop
-mul-nodes c = search needs
+mul-nodes c = omega arith
 
 loop-holds : tie.Need-loop-holds Inv-loop μ-loop
-loop-holds c = search needs
+loop-holds c = (refl, refl)
 
 routes-from-requires : tie.Need-routes-from-requires Inv-loop μ-loop
-routes-from-requires c κs = search needs
+routes-from-requires c κs = tt
 
 add-start : tie.Need-add-start Inv-loop μ-loop
-add-start c = search needs
+add-start c = omega arith
 
 loop-less : tie.Need-loop-less Inv-loop μ-loop
-loop-less c = search needs
+loop-less c = omega arith
 
 loop-again : tie.Need-loop-again Inv-loop μ-loop
-loop-again c = search needs
+loop-again c = (omega arith, omega arith)
 
 same-length : tie.Need-same-length Inv-loop μ-loop
-same-length c = search needs
+same-length c = omega arith
 
 same-length-2 : tie.Need-same-length-2 Inv-loop μ-loop
-same-length-2 c = search needs
+same-length-2 c = omega arith
 
 returns : tie.Need-returns Inv-loop μ-loop
-returns c = search needs
+returns c = tt
 
 pub answer-routes-spec : {M : Type 1} → statement M
 answer-routes-spec =
