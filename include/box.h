@@ -7,9 +7,10 @@
    the first that fails is the answer. Unless that is BOX_DONE, no memory is changed. A call that is done changes what
    its comment names, and entries of a buffer past those it answers keep what they held.
 
-   Slices. A slice is a pointer and the number of its entries behind it; where that is 0 the pointer may be NULL. Where
-   a list is answered in several slices, it must fit into the shortest. What a call writes may not overlap anything
-   else that it is handed. Beyond that nothing is asked: every call ends, whatever numbers and words it is handed.
+   Slices. A slice is a pointer and the number of entries behind it; where that is 0 the pointer may be NULL. A pointer
+   to a single value may not. Where a list is answered in several slices, it must fit into the shortest. What a call
+   writes may not overlap anything else that it is handed. Beyond that nothing is asked: every call ends, whatever
+   numbers and words it is handed.
 
    Memory. No call allocates, and nothing is kept between calls: what Box knows stands in the journal, words that the
    host owns, and may copy, store and hand back. Threads may call at once, each on a journal of its own. No call uses

@@ -1,4 +1,4 @@
-//! The calls as the archive has them, in the order of `include/box.h`'s parameters. Nothing else here is unsafe but through them.
+//! The archive's calls, with the parameters of `include/box.h` in its order. Only `matcher.rs` makes them.
 
 use crate::Segment;
 
