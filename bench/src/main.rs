@@ -104,9 +104,14 @@ fn drive(case: &str, goal: &str, network: &Network, fixes: &[Fix], runs: usize) 
     print_row(case, goal, Times::of(times), other);
 }
 
-/// A sum of words, one after the other.
+/// A plain sum, as the compiler makes it: several words at a time.
 fn plain_sum(words: &[u32]) -> u32 {
-    words.iter().fold(0, |sum: u32, &word| black_box(sum).wrapping_add(word))
+    words.iter().fold(0, |sum: u32, &word| sum.wrapping_add(word))
+}
+
+/// The same, one word after the other.
+fn sum_by_words(words: &[u32]) -> u32 {
+    words.iter().fold(0, |sum: u32, word| sum.wrapping_add(unsafe { std::ptr::read_volatile(word) }))
 }
 
 /// A journal of so many rows of 4 candidates.
@@ -117,35 +122,49 @@ fn long_journal(slices: &Slices, network: &Network, rows: usize) -> Vec<u32> {
     yard::long_journal(&short, rows)
 }
 
+fn feeds(elements: u32, goal: &str) {
+    let network = yard::network(elements);
+    for (candidates, goal) in [(16, goal), (4, "")] {
+        let case = format!("feed, {elements} elements, {candidates} spread");
+        two_fixes(&case, goal, &network, &yard::two_spread(&network, candidates), 21);
+    }
+    for candidates in [4, 16] {
+        let case = format!("feed, {elements} elements, {candidates} neighbouring");
+        two_fixes(&case, "0.500", &network, &yard::two_neighbouring(&network, candidates), 101);
+    }
+}
+
+fn checks(journal: &mut [u32]) {
+    let check = timed(101, || host::check(journal));
+    let sum = |sum: fn(&[u32]) -> u32| {
+        timed(101, || {
+            black_box(sum(black_box(journal)));
+        })
+    };
+    let (by_words, plain) = (sum(sum_by_words), sum(plain_sum));
+    print_row("check 7, 10,000 rows, beside a sum of its words, one after the other", "4.000", check, by_words);
+    print_row("check 7, 10,000 rows, beside a sum of several words at a time", "", check, plain);
+}
+
+fn close_and_build(slices: &Slices, journal: &[u32]) -> Times {
+    let (mut rows, mut candidates) = (vec![0; 20_000], vec![0; 20_000]);
+    let mut segments = vec![linked::Segment::default(); 40_000];
+    timed(5, || {
+        black_box(host::close(journal, &mut rows, &mut candidates));
+        black_box(host::build(slices, journal, &mut segments));
+    })
+}
+
 fn main() {
     println!("| case | Box, us: median (least to greatest) | beside it | ratio | goal |");
     println!("|---|---|---|---|---|");
-    for (elements, goal) in [(1024, "0.100"), (100, "0.200")] {
-        let network = yard::network(elements);
-        two_fixes(&format!("feed, {elements} elements, 16 spread"), goal, &network, &yard::two_spread(&network, 16), 21);
-        two_fixes(&format!("feed, {elements} elements, 4 spread"), "", &network, &yard::two_spread(&network, 4), 21);
-        for candidates in [4, 16] {
-            let case = format!("feed, {elements} elements, {candidates} neighbouring");
-            two_fixes(&case, "0.500", &network, &yard::two_neighbouring(&network, candidates), 101);
-        }
-    }
+    feeds(1024, "0.100");
+    feeds(100, "0.200");
     let network = yard::network(1024);
     drive("drive of 1,000 fixes, 4 neighbouring, a fix", "1.000", &network, &yard::drive(&network, 1000, 4), 5);
     let slices = Slices::of(&network);
     let (mut journal, twice) = (long_journal(&slices, &network, 10_000), long_journal(&slices, &network, 20_000));
-    let check = timed(21, || host::check(&mut journal));
-    let sum = timed(21, || {
-        black_box(plain_sum(&journal));
-    });
-    print_row("check 7, 10,000 rows, beside a plain sum of its words", "4.000", check, sum);
-    let (mut rows, mut candidates) = (vec![0; 20_000], vec![0; 20_000]);
-    let mut segments = vec![linked::Segment::default(); 40_000];
-    let mut close_and_build = |journal: &[u32]| {
-        timed(5, || {
-            black_box(host::close(journal, &mut rows, &mut candidates));
-            black_box(host::build(&slices, journal, &mut segments));
-        })
-    };
-    let (long, longer) = (close_and_build(&journal), close_and_build(&twice));
+    checks(&mut journal);
+    let (long, longer) = (close_and_build(&slices, &journal), close_and_build(&slices, &twice));
     print_row("close and build, 20,000 rows beside 10,000", "2.200", longer, long);
 }
