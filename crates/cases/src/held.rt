@@ -1,11 +1,14 @@
 // Segments in slices, each field in one of its own: as they are read, and as a list is held between two lines.
-use crate::parts::float_at;
-use crate::parts::floats_at;
-use crate::parts::least;
-use crate::parts::number_at;
-use crate::parts::numbers_at;
-use crate::parts::put_float;
-use crate::parts::put_number;
+use answers::fill::FILL;
+use answers::fill::fill_float;
+use answers::fill::same_float;
+use answers::parts::float_at;
+use answers::parts::floats_at;
+use answers::parts::least;
+use answers::parts::number_at;
+use answers::parts::numbers_at;
+use answers::parts::put_float;
+use answers::parts::put_number;
 use segments::array::ARRAY_SEGMENTS;
 use segments::segment::Segment;
 use segments::segment::zero_segment;
@@ -89,4 +92,31 @@ pub fn hold(
     for k in 0..m {
         hold_segment(k, list[k], numbers, intrinsics);
     }
+}
+
+// A segment that holds the fill in every field.
+pub fn fill_segment() -> Segment {
+    Segment {
+        element: FILL,
+        start_intrinsic: fill_float(),
+        end_intrinsic: fill_float(),
+        first_row: FILL,
+        last_row: FILL,
+    }
+}
+
+pub fn same_segment(a: Segment, b: Segment) -> bool {
+    if a.element != b.element {
+        return false;
+    }
+    if !same_float(a.start_intrinsic, b.start_intrinsic) {
+        return false;
+    }
+    if !same_float(a.end_intrinsic, b.end_intrinsic) {
+        return false;
+    }
+    if a.first_row != b.first_row {
+        return false;
+    }
+    a.last_row == b.last_row
 }

@@ -1,19 +1,10 @@
 // Reads the case language from standard input and answers every line of it.
 mod building;
 mod collapsing;
-mod drive;
-mod fill;
 mod held;
-mod host;
 mod input;
 mod line;
 mod memory;
-mod network;
-mod parts;
-mod paths;
-mod print;
-mod routes;
-mod setup;
 mod turn;
 
 fn main() {

@@ -1,10 +1,10 @@
 // The arrays that the program lends to all that it calls.
 use crate::held::HELD_INTRINSICS;
 use crate::held::HELD_NUMBERS;
-use crate::host::SLICES;
-use crate::host::WHOLE;
-use crate::network::FLOATS;
-use crate::network::NUMBERS;
+use answers::host::SLICES;
+use answers::host::WHOLE;
+use answers::network::FLOATS;
+use answers::network::NUMBERS;
 
 // A stretch of the input: twice a line's room.
 pub fn text() -> [u8; 2097152] {

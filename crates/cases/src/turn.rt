@@ -1,16 +1,16 @@
 // The lines of the input, one after the other.
-use crate::host::Host;
-use crate::host::new_host;
-use crate::host::with_cursor;
 use crate::input::Input;
 use crate::input::no_input;
 use crate::input::refill;
 use crate::line::answer;
 use crate::line::next_line;
-use crate::print::end_line;
-use crate::print::flush;
-use crate::print::print_bytes;
-use crate::print::print_number;
+use answers::host::Host;
+use answers::host::new_host;
+use answers::host::with_cursor;
+use answers::print::end_line;
+use answers::print::flush;
+use answers::print::print_bytes;
+use answers::print::print_number;
 use text::cursor::Cursor;
 use text::keyword::Keyword;
 use text::list::first_bytes;

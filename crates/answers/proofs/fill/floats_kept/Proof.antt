@@ -1,0 +1,58 @@
+-- `cases::fill::floats_kept` meets its contract. Assumes nothing.
+use Prim.Native.Nat.{_-_}
+use native.Mathlib.Omega.{arith}
+use Rattle.answers.proofs.fill.floats_kept.Statement.{statement}
+use Rattle.answers.proofs.fill.floats_kept.Tie as tie
+
+abbrev Inv-loop : tie.InvT-loop
+Inv-loop buffer n k₀ k-end k = Unit {0}
+
+abbrev μ-loop : tie.MeasureT-loop
+μ-loop buffer n k₀ k-end k = k-end - k
+
+loop-holds : tie.Need-loop-holds Inv-loop μ-loop
+loop-holds c = tt
+
+mul-same-float : tie.Need-mul-same-float Inv-loop μ-loop
+mul-same-float c = omega arith
+
+shared-slice-read-same-float : tie.Need-shared-slice-read-same-float Inv-loop μ-loop
+shared-slice-read-same-float c = omega arith
+
+fill-float-requires : tie.Need-fill-float-requires Inv-loop μ-loop
+fill-float-requires c κs = tt
+
+same-float-requires : tie.Need-same-float-requires Inv-loop μ-loop
+same-float-requires c κs = tt
+
+returns : tie.Need-returns Inv-loop μ-loop
+returns c = tt
+
+add-k : tie.Need-add-k Inv-loop μ-loop
+add-k c = omega arith
+
+loop-less : tie.Need-loop-less Inv-loop μ-loop
+loop-less c = omega arith
+
+loop-again : tie.Need-loop-again Inv-loop μ-loop
+loop-again c = tt
+
+returns-2 : tie.Need-returns-2 Inv-loop μ-loop
+returns-2 c = tt
+
+pub floats-kept-spec : {M : Type 1} → statement M
+floats-kept-spec =
+    tie.close
+    (tie.spec
+    Inv-loop
+    μ-loop
+    loop-holds
+    mul-same-float
+    shared-slice-read-same-float
+    fill-float-requires
+    same-float-requires
+    returns
+    add-k
+    loop-less
+    loop-again
+    returns-2)
