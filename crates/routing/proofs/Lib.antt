@@ -8,6 +8,7 @@ pub mod WalkCosts
 pub mod Relaxing
 pub mod LeastPick
 pub mod Leaders
+pub mod Chains
 pub mod Traces
 pub mod Settling
 pub mod Ends

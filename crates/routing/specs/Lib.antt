@@ -3,6 +3,7 @@ pub mod Network
 pub mod Walks
 pub mod Search
 pub mod Blocks
+pub mod Index
 pub mod Sound
 pub mod Route
 pub mod Triple
