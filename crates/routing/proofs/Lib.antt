@@ -15,5 +15,7 @@ pub mod Ends
 pub mod Accepted
 pub mod Back
 pub mod Routes
+pub mod Served
+pub mod Noting
 pub mod Promise
 pub mod Connected

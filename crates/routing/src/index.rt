@@ -5,10 +5,10 @@ use crate::link::link_behind;
 use crate::link::relation_at;
 ghost use mathlib.Core.Bool.{true, cond};
 ghost use mathlib.Core.Path.{_≡_};
-ghost use Prim.Native.Nat.{_*_, _<_};
+ghost use Prim.Native.Nat.{_<_};
 ghost use lib.ListN.{length, getD, set};
-ghost use Rattle.routing.specs.Network.{relationsOf};
-ghost use Rattle.routing.specs.Sound.{Even};
+ghost use Rattle.routing.specs.Network.{graphOf, relationsOf};
+ghost use Rattle.routing.specs.Sound.{Sound};
 ghost use Rattle.routing.specs.Index.{Indexed, noHeads, noNexts};
 
 pub fn no_heads() -> [u16; 2048]
@@ -39,20 +39,21 @@ fn add_link(heads: &mut [u16], nexts: &mut [u16], l: Link, e: usize)
 
 // All links are put in, from the last one down.
 pub fn index_links(
-    heads: &mut [u16],
-    nexts: &mut [u16],
-    elements: usize,
+    lengths: &[f64],
     from: &[u32],
     to: &[u32],
     from_side: &[u32],
     to_side: &[u32],
     forward: &[u32],
     backward: &[u32],
+    heads: &mut [u16],
+    nexts: &mut [u16],
 )
-    requires { ⌜ Even (relationsOf (now from) (now to) (now «from_side») (now «to_side») (now forward) (now backward)) ⌝ }
-    requires { ⌜ Indexed elements (relationsOf (now from) (now to) (now «from_side») (now «to_side») (now forward) (now backward)) (2 * length (now from)) (now heads) (now nexts) ⌝ }
-    ensures { λ _. ⌜ Indexed elements (relationsOf (now (from .entry)) (now (to .entry)) (now («from_side» .entry)) (now («to_side» .entry)) (now (forward .entry)) (now (backward .entry))) 0 (now (heads .exit)) (now (nexts .exit)) ⌝ }
+    requires { ⌜ Sound (graphOf (now lengths) (now from) (now to) (now «from_side») (now «to_side») (now forward) (now backward)) ⌝ }
+    requires { ⌜ (now heads ≡ noHeads) × (now nexts ≡ noNexts) ⌝ }
+    ensures { λ _. ⌜ Indexed (length (now (lengths .entry))) (relationsOf (now (from .entry)) (now (to .entry)) (now («from_side» .entry)) (now («to_side» .entry)) (now (forward .entry)) (now (backward .entry))) 0 (now (heads .exit)) (now (nexts .exit)) ⌝ }
 {
+    let elements = lengths.len();
     let mut k = from.len();
     while 0 < k {
         k -= 1;

@@ -36,7 +36,7 @@ pub fn no_preds() -> [u32; 4096]
     [0u32; 4096]
 }
 
-fn no_marks() -> [bool; 4096]
+pub fn no_marks() -> [bool; 4096]
     ensures { λ r. ⌜ r ≡ noMarks ⌝ }
 {
     [false; 4096]
@@ -70,7 +70,7 @@ fn better_of(costs: &[f64], marks: &[bool], best: Pick, i: usize) -> Pick
 }
 
 // The unsettled state of least cost among the first `states`, the lowest number among equals: the best of the blocks' leaders.
-fn next_state(costs: &[f64], marks: &[bool], blocks: &[usize], states: usize) -> Pick
+pub fn next_state(costs: &[f64], marks: &[bool], blocks: &[usize], states: usize) -> Pick
     requires { ⌜ (states ≤ length (now costs)) × (states ≤ length (now marks)) ⌝ }
     requires { ⌜ Blocks states (now costs) (now marks) (now blocks) ⌝ }
     ensures { λ r. ⌜ r ≡ pickOf (now (costs .entry)) (now (marks .entry)) states ⌝ }
@@ -161,7 +161,7 @@ fn opposite_of(v: usize) -> usize
 }
 
 // The state s is settled: it is marked, and what its edges reach is lowered.
-fn settle(
+pub fn settle(
     costs: &mut [f64],
     preds: &mut [u32],
     marks: &mut [bool],
@@ -299,15 +299,15 @@ pub fn search_between(
     let mut heads = no_heads();
     let mut nexts = no_nexts();
     index_links(
-        &mut heads,
-        &mut nexts,
-        lengths.len(),
+        lengths,
         from,
         to,
         from_side,
         to_side,
         forward,
         backward,
+        &mut heads,
+        &mut nexts,
     );
     costs[2 * start] = 0.0;
     blocks[start / 32] = 2 * (start % 32);

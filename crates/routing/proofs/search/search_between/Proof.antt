@@ -6,7 +6,6 @@ use lib.Ieee.{ofBits}
 use Rattle.routing.specs.Search.{Ended}
 use Rattle.routing.proofs.search.search_between.Statement.{statement}
 use Rattle.routing.proofs.search.search_between.Tie as tie
-use Rattle.routing.proofs.Chains.{indexed-none}
 use Rattle.routing.proofs.Routes.{begun-fits, is-begun, begun-room, begun-blocks, is-searched}
 
 no-marks-requires : tie.Need-no-marks-requires
@@ -28,7 +27,7 @@ slice-aggregate-index-links-2 : tie.Need-slice-aggregate-index-links-2
 slice-aggregate-index-links-2 c = search needs
 
 index-links-requires : tie.Need-index-links-requires
-index-links-requires c κs = (c .before .before .before .before .before .before .before .before .before .before .before .before .before .before .before .pre .0 .relations, indexed-none _ _ (c .before .before .before .before .before .before .before .before .before .before .before .before .before .before .before .pre .0 .relations) (c .before .before .before .before .before .before .before .before .before .before .before .before .before .before .before .pre .0 .few) (c .before .before .before .no-heads .ensures) (c .before .before .no-nexts .ensures))
+index-links-requires c κs = (c .before .before .before .before .before .before .before .before .before .before .before .before .before .before .before .pre .0, (c .before .before .before .no-heads .ensures, c .before .before .no-nexts .ensures))
 
 mul-costs : tie.Need-mul-costs
 mul-costs c = search needs
