@@ -8,11 +8,14 @@ pub mod WalkCosts
 pub mod Relaxing
 pub mod LeastPick
 pub mod Leaders
+pub mod Chains
 pub mod Traces
 pub mod Settling
 pub mod Ends
 pub mod Accepted
 pub mod Back
 pub mod Routes
+pub mod Served
+pub mod Noting
 pub mod Promise
 pub mod Connected

@@ -35,6 +35,16 @@ module _ (elements n : ℕ) (r : Relation) (sides : Sides r) (room : 4 * element
   unfolding behind node
   behind-lands e = omega (arith, navigable-known elements r (r .backward) e, sides .fromSide)
 
+-- and starts at a node of it
+module _ (elements : ℕ) (r : Relation) (sides : Sides r) where
+  pub ahead-starts : ahead elements r .passable ≡ true → ahead elements r .from < 2 * elements
+  unfolding ahead node
+  ahead-starts e = omega (arith, navigable-known elements r (r .forward) e, sides .fromSide)
+
+  pub behind-starts : behind elements r .passable ≡ true → behind elements r .from < 2 * elements
+  unfolding behind node
+  behind-starts e = omega (arith, navigable-known elements r (r .backward) e, sides .toSide)
+
 -- the internal edge leads to a state of the network too
 pub opposite-lands : (elements s : ℕ) → s < 4 * elements → 2 * opposite (s / 2) < 4 * elements
 unfolding opposite

@@ -1,12 +1,12 @@
 -- What the functions around the search hand on: local tables are those that `searched` begins with, a route is read off its end, and an unknown
 -- side has none. Assumes nothing.
 use mathlib.Core.Path.{_≡_, refl, sym, ap, subst, _∙_}
-use mathlib.Core.Bool.{Bool, true, false, cond, _&&_}
-use mathlib.Core.List.{List, [], reverse}
+use mathlib.Core.Bool.{Bool, true, false}
+use mathlib.Core.List.{List, reverse}
 use Prim.Native.Nat.{ℕ, zero, suc, _*_, _/_, _%_, _<_}
 use native.Mathlib.Omega.{arith}
 use lib.Dec.{ltb}
-use lib.ListN.{length, getD, set, length-reverse}
+use lib.ListN.{length, getD, set, length-replicate, length-reverse}
 use lib.Ieee.{Float, nan, inf}
 use borrow.Author.Tests.{ltb-true}
 use Rattle.lists.proofs.Loops.{and-both}
@@ -24,13 +24,13 @@ use Rattle.routing.specs.declared.triple.Consistency.the-variants.{Refus
 use Rattle.routing.specs.Network.{Network, Graph, count, checked}
 use Rattle.routing.specs.Walks.{node}
 use Rattle.routing.specs.Sound.{Sound, Room}
-use Rattle.routing.specs.Search.{Within, Search, searchOf, Ended, run, left, noCosts, noPreds, noMarks, begun, searched}
+use Rattle.routing.specs.Search.{Within, Tables, Search, searchOf, Ended, run, left, noCosts, noPreds, noMarks, begun, searched}
 use Rattle.routing.specs.Blocks.{noBlocks, Blocks}
 use Rattle.routing.specs.Route.{knownSide, endCost, costOfEnd, route, stepsBack, back, endStates, statesOfEnd, routeStates, distanceBy, distanceOf, listingOf, listingBy, listing, stored}
 use Rattle.routing.specs.Triple.{consistent, consistencyOf, consistencyBy, consistency}
 use Rattle.routing.proofs.Turns.{left-all}
 use Rattle.routing.proofs.Leaders.{blocks-begun}
-use Rattle.routing.proofs.Kept.{Full, begun-full, searched-lengths, searched-within}
+use Rattle.routing.proofs.Kept.{begun-full, searched-lengths, searched-preds, searched-within}
 
 pub length-back : (preds : List ℕ) (n s : ℕ) → length (back preds n s) ≡ n
 unfolding back
@@ -38,6 +38,11 @@ length-back preds zero s = refl
 length-back preds (suc n) s = ap suc (length-back preds n (getD preds s 0))
 
 -- ---- local tables
+
+-- the start has its place in them
+pub begun-fits : {costs : List Float} → costs ≡ noCosts → (g : Graph) → Sound g → (from : ℕ) → from < 2 * count g → 2 * from < length costs
+unfolding noCosts
+begun-fits e g sound from known = rw (e, length-replicate {A = Float} 4096 (inf false)) (omega (arith, sound .few))
 
 -- the tables of a search that begins are as `begun` has them
 module _ (from : ℕ) {costs : List Float} {preds : List ℕ} {marks : List Bool} (cs : costs ≡ noCosts) (ps : preds ≡ noPreds) (ms : marks ≡ noMarks) where
@@ -56,48 +61,49 @@ module _ (from : ℕ) {costs : List Float} {preds : List ℕ} {marks : List Bool
   begun-blocks bs g sound known = rw (cs, ms, bs) (blocks-begun (4 * count g) (omega (arith, sound .few)) from (omega arith))
 
 -- the search from there is `searched`
-module _ (g : Graph) (from goal : ℕ) {e : Ended} {q : Search} (beginning : q ≡ begun from) (ran : e ≡ run g goal (left (q .marks) (4 * count g)) q) where
-  pub is-searched : e ≡ searched g from goal
-  unfolding searched begun
-  is-searched = ran ∙ rw (beginning, left-all (4 * count g))
+pub is-searched : (g : Graph) (from goal : ℕ) {e : Ended} {q : Search} → q ≡ begun from → e ≡ run g goal (left (q .marks) (4 * count g)) q → e ≡ searched g from goal
+unfolding searched begun
+is-searched g from goal beginning ran = ran ∙ rw (beginning, left-all (4 * count g))
 
-  module _ (s : ℕ) (picked : e .pick ≡ At s) where
-    pub found-cost : Cost (getD (e .search .tables .costs) s nan) ≡ costOfEnd (searched g from goal)
+-- its end, as `search_between` hands it over
+module _ (g : Graph) (from goal : ℕ) {pick : Pick} {t : Tables} (ended : pick ≡ searched g from goal .pick) (tabled : t ≡ searched g from goal .search .tables) where
+  module _ (s : ℕ) (picked : pick ≡ At s) where
+    pub found-cost : Cost (getD (t .costs) s nan) ≡ costOfEnd (searched g from goal)
     unfolding costOfEnd endCost
-    found-cost = rw (← is-searched, picked)
+    found-cost = rw (← ended, picked, tabled)
 
-    pub found-states : let preds = e .search .tables .preds in
-        reverse (back preds (stepsBack preds (2 * from) (4 * count g) s) s) ≡ statesOfEnd (2 * from) (4 * count g) (searched g from goal)
+    pub found-states : reverse (back (t .preds) (stepsBack (t .preds) (2 * from) (4 * count g) s) s) ≡ statesOfEnd (2 * from) (4 * count g) (searched g from goal)
     unfolding statesOfEnd endStates
-    found-states = rw (← is-searched, picked)
+    found-states = rw (← ended, picked, tabled)
 
-    pub found-count : let preds = e .search .tables .preds in
-        stepsBack preds (2 * from) (4 * count g) s ≡ length (statesOfEnd (2 * from) (4 * count g) (searched g from goal))
+    pub found-count : stepsBack (t .preds) (2 * from) (4 * count g) s ≡ length (statesOfEnd (2 * from) (4 * count g) (searched g from goal))
     found-count = rw (← found-states, length-reverse, length-back)
 
     module _ (room : ℕ) (l : Listing) where
-      pub found-listing : let preds = e .search .tables .preds in
-          l ≡ listingOf (Cost (getD (e .search .tables .costs) s nan)) (stepsBack preds (2 * from) (4 * count g) s) room →
+      pub found-listing : l ≡ listingOf (Cost (getD (t .costs) s nan)) (stepsBack (t .preds) (2 * from) (4 * count g) s) room →
           l ≡ listingOf (costOfEnd (searched g from goal)) (length (statesOfEnd (2 * from) (4 * count g) (searched g from goal))) room
       found-listing h = rw (← found-cost, ← found-count) h
 
-      pub found-stored : (buffer : List ℕ) {after : List ℕ} → let preds = e .search .tables .preds in
-          after ≡ stored l (reverse (back preds (stepsBack preds (2 * from) (4 * count g) s) s)) buffer →
+      pub found-stored : (buffer : List ℕ) {after : List ℕ} → after ≡ stored l (reverse (back (t .preds) (stepsBack (t .preds) (2 * from) (4 * count g) s) s)) buffer →
           after ≡ stored l (statesOfEnd (2 * from) (4 * count g) (searched g from goal)) buffer
       found-stored buffer h = rw (← found-states) h
 
     pub found-below : Sound g → s < 4096
     found-below sound =
-        let w : Within (4 * count g) (At s) = subst (Within (4 * count g)) (ap (λ (d : Ended). d .pick) (sym is-searched) ∙ picked) (searched-within g sound from goal) in
+        let w : Within (4 * count g) (At s) = subst (Within (4 * count g)) (sym ended ∙ picked) (searched-within g sound from goal) in
         omega (arith, w, sound .few)
 
-  pub found-full : Sound g → Full (e .search)
-  found-full sound = rw is-searched (searched-lengths g sound from goal)
+  module _ (sound : Sound g) where
+    pub found-preds : length (t .preds) ≡ 4096
+    found-preds = rw tabled (searched-lengths g sound from goal .preds)
 
-  module _ (nothing : e .pick ≡ Nothing) where
+    pub found-states-below : (k : ℕ) → getD (t .preds) k 0 < 4096
+    found-states-below k = rw tabled (searched-preds g sound from goal k)
+
+  module _ (nothing : pick ≡ Nothing) where
     pub none-cost : Unreachable ≡ costOfEnd (searched g from goal)
     unfolding costOfEnd endCost
-    none-cost = rw (← is-searched, nothing)
+    none-cost = rw (← ended, nothing)
 
     pub none-listing : (n room : ℕ) → NoRoute ≡ listingOf (costOfEnd (searched g from goal)) n room
     unfolding listingOf

@@ -1,10 +1,11 @@
 // A relation is a link each way between two nodes: the external edges of the network.
 ghost use mathlib.Core.Path.{_≡_};
-ghost use Prim.Native.Nat.{_<_, _≤_};
+ghost use Prim.Native.Nat.{_*_, _<_, _≤_};
 ghost use lib.ListN.{length};
 ghost use Rattle.routing.specs.Network.{relationsOf};
 ghost use Rattle.routing.specs.Sound.{Even, Narrow};
 ghost use Rattle.routing.specs.Walks.{node, relationAt, usable, navigable, ahead, behind};
+ghost use Rattle.routing.specs.Index.{linkAt};
 
 pub struct Relation {
     pub from: usize,
@@ -102,4 +103,32 @@ pub fn link_behind(elements: usize, r: Relation) -> Link
         from: node_of(r.to, r.to_side),
         to: node_of(r.from, r.from_side),
     }
+}
+
+pub fn link_number(x: u16) -> usize
+    ensures { λ r. ⌜ r ≡ x ⌝ }
+{
+    x as usize
+}
+
+// Of relation k, link 2k is the one ahead and link 2k + 1 the one behind.
+pub fn link_at(
+    elements: usize,
+    from: &[u32],
+    to: &[u32],
+    from_side: &[u32],
+    to_side: &[u32],
+    forward: &[u32],
+    backward: &[u32],
+    e: usize,
+) -> Link
+    requires { ⌜ Even (relationsOf (now from) (now to) (now «from_side») (now «to_side») (now forward) (now backward)) ⌝ }
+    requires { ⌜ e < 2 * length (now from) ⌝ }
+    ensures { λ l. ⌜ l ≡ linkAt elements (relationsOf (now (from .entry)) (now (to .entry)) (now («from_side» .entry)) (now («to_side» .entry)) (now (forward .entry)) (now (backward .entry))) e ⌝ }
+{
+    let r = relation_at(from, to, from_side, to_side, forward, backward, e / 2);
+    if e % 2 == 0 {
+        return link_ahead(elements, r);
+    }
+    link_behind(elements, r)
 }

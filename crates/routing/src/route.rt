@@ -1,14 +1,12 @@
 // The cheapest route between two sides of the network: its cost, and its states.
-use crate::blocks::no_blocks;
 use crate::link::node_of;
 use crate::link::wide;
 use crate::network::Checked;
 use crate::network::check_network;
 use crate::search::Pick;
-use crate::search::find;
 use crate::search::no_costs;
-use crate::search::no_marks;
 use crate::search::no_preds;
+use crate::search::search_between;
 ghost use mathlib.Core.Path.{_≡_};
 ghost use mathlib.Core.List.{_++_, reverse};
 ghost use Prim.Native.Nat.{ℕ, _*_, _<_, _≤_};
@@ -63,15 +61,9 @@ fn distance_between(
 {
     let mut costs = no_costs();
     let mut preds = no_preds();
-    let mut marks = no_marks();
-    let mut blocks = no_blocks();
-    costs[2 * start] = 0.0;
-    blocks[start / 32] = 2 * (start % 32);
-    let end = find(
+    let end = search_between(
         &mut costs,
         &mut preds,
-        &mut marks,
-        &mut blocks,
         lengths,
         from,
         to,
@@ -79,6 +71,7 @@ fn distance_between(
         to_side,
         forward,
         backward,
+        start,
         goal,
     );
     match end {
@@ -245,15 +238,9 @@ fn states_between(
 {
     let mut costs = no_costs();
     let mut preds = no_preds();
-    let mut marks = no_marks();
-    let mut blocks = no_blocks();
-    costs[2 * start] = 0.0;
-    blocks[start / 32] = 2 * (start % 32);
-    let end = find(
+    let end = search_between(
         &mut costs,
         &mut preds,
-        &mut marks,
-        &mut blocks,
         lengths,
         from,
         to,
@@ -261,6 +248,7 @@ fn states_between(
         to_side,
         forward,
         backward,
+        start,
         goal,
     );
     match end {

@@ -1,20 +1,22 @@
 // The search for a route, over tables of four states per element.
 use crate::blocks::lead;
 use crate::blocks::mark_state;
-use crate::link::Link;
-use crate::link::Relation;
-use crate::link::link_ahead;
-use crate::link::link_behind;
-use crate::link::relation_at;
+use crate::blocks::no_blocks;
+use crate::index::index_links;
+use crate::index::no_heads;
+use crate::index::no_nexts;
+use crate::link::link_at;
+use crate::link::link_number;
 use binary64::infinity;
 ghost use mathlib.Core.Path.{_≡_};
 ghost use Prim.Native.Nat.{_*_, _<_, _≤_};
 ghost use lib.ListN.{length};
-ghost use Rattle.routing.specs.Network.{graphOf, relationsOf, count};
-ghost use Rattle.routing.specs.Sound.{Even, Narrow, Sound, Sides, Lands, Room};
+ghost use Rattle.routing.specs.Network.{graphOf, relationsOf};
+ghost use Rattle.routing.specs.Sound.{Even, Sound, Room};
 ghost use Rattle.routing.specs.Walks.{opposite};
 ghost use Rattle.routing.specs.Blocks.{Blocks};
-ghost use Rattle.routing.specs.Search.{Within, costOf, better, pickOf, tables, lower, follow, followBoth, relaxExternal, settled, searchOf, endedAt, left, run, noCosts, noPreds, noMarks};
+ghost use Rattle.routing.specs.Index.{Indexed};
+ghost use Rattle.routing.specs.Search.{Within, costOf, better, pickOf, tables, lower, relaxExternal, settled, searchOf, endedAt, left, run, noCosts, noPreds, noMarks, searched};
 
 pub enum Pick {
     At(usize),
@@ -68,7 +70,7 @@ fn better_of(costs: &[f64], marks: &[bool], best: Pick, i: usize) -> Pick
 }
 
 // The unsettled state of least cost among the first `states`, the lowest number among equals: the best of the blocks' leaders.
-fn next_state(costs: &[f64], marks: &[bool], blocks: &[usize], states: usize) -> Pick
+pub fn next_state(costs: &[f64], marks: &[bool], blocks: &[usize], states: usize) -> Pick
     requires { ⌜ (states ≤ length (now costs)) × (states ≤ length (now marks)) ⌝ }
     requires { ⌜ Blocks states (now costs) (now marks) (now blocks) ⌝ }
     ensures { λ r. ⌜ r ≡ pickOf (now (costs .entry)) (now (marks .entry)) states ⌝ }
@@ -107,81 +109,7 @@ fn lower_state(
     }
 }
 
-// A link is followed from node v, which costs d, where it is passable and starts there.
-fn follow_link(
-    costs: &mut [f64],
-    preds: &mut [u32],
-    marks: &[bool],
-    blocks: &mut [usize],
-    elements: usize,
-    v: usize,
-    d: f64,
-    l: Link,
-)
-    requires { ⌜ v < 2048 ⌝ }
-    requires { ⌜ Lands (4 * elements) l ⌝ }
-    requires { ⌜ Room elements (searchOf (now costs) (now preds) (now marks)) ⌝ }
-    requires { ⌜ Blocks (4 * elements) (now costs) (now marks) (now blocks) ⌝ }
-    ensures { λ _. ⌜ tables (now (costs .exit)) (now (preds .exit)) ≡ follow v d l (tables (now (costs .entry)) (now (preds .entry))) ⌝ }
-    ensures { λ _. ⌜ Blocks (4 * elements) (now (costs .exit)) (now (marks .entry)) (now (blocks .exit)) ⌝ }
-{
-    if l.passable {
-        if l.from == v {
-            lower_state(
-                costs,
-                preds,
-                marks,
-                blocks,
-                elements,
-                2 * v,
-                2 * l.to + 1,
-                d + 0.0,
-            );
-        }
-    }
-}
-
-// Both links of a relation are followed.
-fn follow_relation(
-    costs: &mut [f64],
-    preds: &mut [u32],
-    marks: &[bool],
-    blocks: &mut [usize],
-    elements: usize,
-    v: usize,
-    d: f64,
-    r: Relation,
-)
-    requires { ⌜ v < 2048 ⌝ }
-    requires { ⌜ Narrow r × Sides r ⌝ }
-    requires { ⌜ Room elements (searchOf (now costs) (now preds) (now marks)) ⌝ }
-    requires { ⌜ Blocks (4 * elements) (now costs) (now marks) (now blocks) ⌝ }
-    ensures { λ _. ⌜ tables (now (costs .exit)) (now (preds .exit)) ≡ followBoth elements v d r (tables (now (costs .entry)) (now (preds .entry))) ⌝ }
-    ensures { λ _. ⌜ Blocks (4 * elements) (now (costs .exit)) (now (marks .entry)) (now (blocks .exit)) ⌝ }
-{
-    follow_link(
-        costs,
-        preds,
-        marks,
-        blocks,
-        elements,
-        v,
-        d,
-        link_ahead(elements, r),
-    );
-    follow_link(
-        costs,
-        preds,
-        marks,
-        blocks,
-        elements,
-        v,
-        d,
-        link_behind(elements, r),
-    );
-}
-
-// All external edges out of node v, in the relations' order.
+// All external edges out of node v, which costs d, in the relations' order: the index leads from one to the next.
 fn relax_external(
     costs: &mut [f64],
     preds: &mut [u32],
@@ -194,19 +122,33 @@ fn relax_external(
     to_side: &[u32],
     forward: &[u32],
     backward: &[u32],
+    heads: &[u16],
+    nexts: &[u16],
     v: usize,
     d: f64,
 )
-    requires { ⌜ v < 2048 ⌝ }
+    requires { ⌜ (v < 2 * elements) × (v < 2048) ⌝ }
     requires { ⌜ Even (relationsOf (now from) (now to) (now «from_side») (now «to_side») (now forward) (now backward)) ⌝ }
     requires { ⌜ Room elements (searchOf (now costs) (now preds) (now marks)) ⌝ }
     requires { ⌜ Blocks (4 * elements) (now costs) (now marks) (now blocks) ⌝ }
+    requires { ⌜ Indexed elements (relationsOf (now from) (now to) (now «from_side») (now «to_side») (now forward) (now backward)) 0 (now heads) (now nexts) ⌝ }
     ensures { λ _. ⌜ tables (now (costs .exit)) (now (preds .exit)) ≡ relaxExternal elements (relationsOf (now (from .entry)) (now (to .entry)) (now («from_side» .entry)) (now («to_side» .entry)) (now (forward .entry)) (now (backward .entry))) v d (tables (now (costs .entry)) (now (preds .entry))) ⌝ }
     ensures { λ _. ⌜ Blocks (4 * elements) (now (costs .exit)) (now (marks .entry)) (now (blocks .exit)) ⌝ }
 {
-    for k in 0..from.len() {
-        let r = relation_at(from, to, from_side, to_side, forward, backward, k);
-        follow_relation(costs, preds, marks, blocks, elements, v, d, r);
+    let mut e = link_number(heads[v]);
+    while e < 2 * from.len() {
+        let l = link_at(elements, from, to, from_side, to_side, forward, backward, e);
+        lower_state(
+            costs,
+            preds,
+            marks,
+            blocks,
+            elements,
+            2 * v,
+            2 * l.to + 1,
+            d + 0.0,
+        );
+        e = link_number(nexts[e]);
     }
 }
 
@@ -231,11 +173,14 @@ pub fn settle(
     to_side: &[u32],
     forward: &[u32],
     backward: &[u32],
+    heads: &[u16],
+    nexts: &[u16],
     s: usize,
 )
     requires { ⌜ Sound (graphOf (now lengths) (now from) (now to) (now «from_side») (now «to_side») (now forward) (now backward)) ⌝ }
     requires { ⌜ Room (length (now lengths)) (searchOf (now costs) (now preds) (now marks)) ⌝ }
     requires { ⌜ Blocks (4 * length (now lengths)) (now costs) (now marks) (now blocks) ⌝ }
+    requires { ⌜ Indexed (length (now lengths)) (relationsOf (now from) (now to) (now «from_side») (now «to_side») (now forward) (now backward)) 0 (now heads) (now nexts) ⌝ }
     requires { ⌜ s < 4 * length (now lengths) ⌝ }
     ensures { λ _. ⌜ searchOf (now (costs .exit)) (now (preds .exit)) (now (marks .exit)) ≡ settled (graphOf (now (lengths .entry)) (now (from .entry)) (now (to .entry)) (now («from_side» .entry)) (now («to_side» .entry)) (now (forward .entry)) (now (backward .entry))) s (searchOf (now (costs .entry)) (now (preds .entry)) (now (marks .entry))) ⌝ }
     ensures { λ _. ⌜ Blocks (4 * length (now (lengths .entry))) (now (costs .exit)) (now (marks .exit)) (now (blocks .exit)) ⌝ }
@@ -267,6 +212,8 @@ pub fn settle(
             to_side,
             forward,
             backward,
+            heads,
+            nexts,
             s / 2,
             d,
         );
@@ -274,7 +221,7 @@ pub fn settle(
 }
 
 // The search, from tables that hold where it starts: the state of the goal at which it ends.
-pub fn find(
+fn find(
     costs: &mut [f64],
     preds: &mut [u32],
     marks: &mut [bool],
@@ -286,11 +233,14 @@ pub fn find(
     to_side: &[u32],
     forward: &[u32],
     backward: &[u32],
+    heads: &[u16],
+    nexts: &[u16],
     goal: usize,
 ) -> Pick
     requires { ⌜ Sound (graphOf (now lengths) (now from) (now to) (now «from_side») (now «to_side») (now forward) (now backward)) ⌝ }
     requires { ⌜ Room (length (now lengths)) (searchOf (now costs) (now preds) (now marks)) ⌝ }
     requires { ⌜ Blocks (4 * length (now lengths)) (now costs) (now marks) (now blocks) ⌝ }
+    requires { ⌜ Indexed (length (now lengths)) (relationsOf (now from) (now to) (now «from_side») (now «to_side») (now forward) (now backward)) 0 (now heads) (now nexts) ⌝ }
     ensures { λ r. ⌜ endedAt r (searchOf (now (costs .exit)) (now (preds .exit)) (now (marks .exit))) ≡ run (graphOf (now (lengths .entry)) (now (from .entry)) (now (to .entry)) (now («from_side» .entry)) (now («to_side» .entry)) (now (forward .entry)) (now (backward .entry))) goal (left (now (marks .entry)) (4 * length (now (lengths .entry)))) (searchOf (now (costs .entry)) (now (preds .entry)) (now (marks .entry))) ⌝ }
 {
     loop {
@@ -312,6 +262,8 @@ pub fn find(
                     to_side,
                     forward,
                     backward,
+                    heads,
+                    nexts,
                     s,
                 );
             }
@@ -320,4 +272,59 @@ pub fn find(
             }
         }
     }
+}
+
+// The search between two nodes, over tables in which no state is reached: the state of the goal at which it ends.
+pub fn search_between(
+    costs: &mut [f64],
+    preds: &mut [u32],
+    lengths: &[f64],
+    from: &[u32],
+    to: &[u32],
+    from_side: &[u32],
+    to_side: &[u32],
+    forward: &[u32],
+    backward: &[u32],
+    start: usize,
+    goal: usize,
+) -> Pick
+    requires { ⌜ Sound (graphOf (now lengths) (now from) (now to) (now «from_side») (now «to_side») (now forward) (now backward)) ⌝ }
+    requires { ⌜ start < 2 * length (now lengths) ⌝ }
+    requires { ⌜ (now costs ≡ noCosts) × (now preds ≡ noPreds) ⌝ }
+    ensures { λ r. ⌜ r ≡ searched (graphOf (now (lengths .entry)) (now (from .entry)) (now (to .entry)) (now («from_side» .entry)) (now («to_side» .entry)) (now (forward .entry)) (now (backward .entry))) start goal .pick ⌝ }
+    ensures { λ _. ⌜ tables (now (costs .exit)) (now (preds .exit)) ≡ searched (graphOf (now (lengths .entry)) (now (from .entry)) (now (to .entry)) (now («from_side» .entry)) (now («to_side» .entry)) (now (forward .entry)) (now (backward .entry))) start goal .search .tables ⌝ }
+{
+    let mut marks = no_marks();
+    let mut blocks = no_blocks();
+    let mut heads = no_heads();
+    let mut nexts = no_nexts();
+    index_links(
+        lengths,
+        from,
+        to,
+        from_side,
+        to_side,
+        forward,
+        backward,
+        &mut heads,
+        &mut nexts,
+    );
+    costs[2 * start] = 0.0;
+    blocks[start / 32] = 2 * (start % 32);
+    find(
+        costs,
+        preds,
+        &mut marks,
+        &mut blocks,
+        lengths,
+        from,
+        to,
+        from_side,
+        to_side,
+        forward,
+        backward,
+        &heads,
+        &nexts,
+        goal,
+    )
 }

@@ -3,17 +3,17 @@ use mathlib.Core.Path.{_≡_, refl, sym, _∙_}
 use Prim.Native.Nat.{ℕ, _*_, _≤_, _<_}
 use native.Mathlib.Omega.{arith}
 use lib.ListN.{length}
-use borrow.Author.Needs.{needs}
 use Rattle.routing.specs.declared.search.Pick.the-variants.{At}
 use Rattle.routing.specs.Network.{Graph, graphOf}
 use Rattle.routing.specs.Search.{Search, searchOf, next, left, run}
 use Rattle.routing.specs.Blocks.{Blocks}
+use borrow.Author.Needs.{needs}
 use Rattle.routing.proofs.search.find.Statement.{statement}
 use Rattle.routing.proofs.search.find.Tie as tie
 use Rattle.routing.proofs.Turns.{below, turn-found, turn-less, turn-on, run-none, room-same}
 
 abbrev Inv-loop : tie.InvT-loop
-Inv-loop costs₀ preds₀ marks₀ blocks₀ lengths from to from-side to-side forward backward goal costs preds marks blocks =
+Inv-loop costs₀ preds₀ marks₀ blocks₀ lengths from to from-side to-side forward backward heads nexts goal costs preds marks blocks =
     (length costs ≡ length costs₀)
     × (length preds ≡ length preds₀)
     × (length marks ≡ length marks₀)
@@ -23,7 +23,7 @@ Inv-loop costs₀ preds₀ marks₀ blocks₀ lengths from to from-side to-side 
     ≡ run (graphOf lengths from to from-side to-side forward backward) goal (left marks₀ (4 * length lengths)) (searchOf costs₀ preds₀ marks₀))
 
 abbrev μ-loop : tie.MeasureT-loop
-μ-loop costs₀ preds₀ marks₀ blocks₀ lengths from to from-side to-side forward backward goal costs preds marks blocks = left marks (4 * length lengths)
+μ-loop costs₀ preds₀ marks₀ blocks₀ lengths from to from-side to-side forward backward heads nexts goal costs preds marks blocks = left marks (4 * length lengths)
 
 -- ---- a turn that picked a state
 
@@ -35,7 +35,7 @@ graph-at c =
 module _ (c : tie.After-known-told Inv-loop μ-loop) where
   abbrev g : Graph
   unfolding graph-at
-  g = graph-at (c .before .before .before .before .before .before .before .before .before .before .before .before .before .before .before .before .before .before .before)
+  g = graph-at (c .before .before .before .before .before .before .before .before .before .before .before .before .before .before .before .before .before .before .before .before .before)
 
   abbrev q : Search
   q = searchOf (c .before .before .before .before .before .before .before .loop .costs) (c .before .before .before .before .before .before .before .loop .preds) (c .before .before .before .before .before .before .before .loop .marks)
@@ -45,23 +45,23 @@ module _ (c : tie.After-known-told Inv-loop μ-loop) where
 
   fits : 4 * length (g .lengths) ≤ length (q .marks)
   unfolding graph-at
-  fits = omega (arith, c .before .before .before .before .before .before .before .loop .inv .2, c .before .before .before .before .before .before .before .before .before .before .before .before .before .before .before .before .before .before .before .pre .1 .0 .marks)
+  fits = omega (arith, c .before .before .before .before .before .before .before .loop .inv .2, c .before .before .before .before .before .before .before .before .before .before .before .before .before .before .before .before .before .before .before .before .before .pre .1 .0 .marks)
 
   picked : next g q ≡ At s
   unfolding next graph-at
   picked = sym (c .before .before .before .next-state .ensures) ∙ c .before .picked .given .1
 
   s-below : s < 4 * length (g .lengths)
-  s-below = below g (c .before .before .before .before .before .before .before .before .before .before .before .before .before .before .before .before .before .before .before .args .goal) q s fits picked
+  s-below = below g (c .before .before .before .before .before .before .before .before .before .before .before .before .before .before .before .before .before .before .before .before .before .args .goal) q s fits picked
 
 loop-holds : tie.Need-loop-holds Inv-loop μ-loop
-loop-holds c = (refl, refl, refl, refl, c .before .before .before .before .before .before .before .before .before .before .before .pre .1 .1, refl)
+loop-holds c = (refl, refl, refl, refl, c .before .before .before .before .before .before .before .before .before .before .before .before .before .pre .1 .1 .0, refl)
 
 mul-next-state : tie.Need-mul-next-state Inv-loop μ-loop
-mul-next-state c = omega (arith, c .before .before .before .before .before .before .before .before .before .before .before .before .before .before .before .pre .0 .few)
+mul-next-state c = omega (arith, c .before .before .before .before .before .before .before .before .before .before .before .before .before .before .before .before .before .pre .0 .few)
 
 next-state-requires : tie.Need-next-state-requires Inv-loop μ-loop
-next-state-requires c κs = ((omega (arith, c .before .before .before .loop .inv .0, c .before .before .before .before .before .before .before .before .before .before .before .before .before .before .before .pre .1 .0 .costs), omega (arith, c .before .before .before .loop .inv .2, c .before .before .before .before .before .before .before .before .before .before .before .before .before .before .before .pre .1 .0 .marks)), c .before .before .before .loop .inv .4)
+next-state-requires c κs = ((omega (arith, c .before .before .before .loop .inv .0, c .before .before .before .before .before .before .before .before .before .before .before .before .before .before .before .before .before .pre .1 .0 .costs), omega (arith, c .before .before .before .loop .inv .2, c .before .before .before .before .before .before .before .before .before .before .before .before .before .before .before .before .before .pre .1 .0 .marks)), c .before .before .before .loop .inv .4)
 
 enum-known-picked : tie.Need-enum-known-picked Inv-loop μ-loop
 enum-known-picked c = search needs
@@ -84,11 +84,11 @@ returns c = turn-found _ _ _ _ (fits (c .before)) (picked (c .before)) (c .if1 .
 
 settle-requires : tie.Need-settle-requires Inv-loop μ-loop
 unfolding graph-at
-settle-requires c κs = (c .before .before .before .before .before .before .before .before .before .before .before .before .before .before .before .before .before .before .before .before .before .before .before .before .pre .0, (room-same _ _ _ (c .before .before .before .before .before .before .before .before .before .before .before .before .before .before .before .before .before .before .before .before .before .before .before .before .pre .1 .0) (c .before .before .before .before .before .before .before .before .before .before .before .before .loop .inv .0) (c .before .before .before .before .before .before .before .before .before .before .before .before .loop .inv .1) (c .before .before .before .before .before .before .before .before .before .before .before .before .loop .inv .2), (c .before .before .before .before .before .before .before .before .before .before .before .before .loop .inv .4, s-below (c .before .before .before .before .before))))
+settle-requires c κs = (c .before .before .before .before .before .before .before .before .before .before .before .before .before .before .before .before .before .before .before .before .before .before .before .before .before .before .pre .0, (room-same _ _ _ (c .before .before .before .before .before .before .before .before .before .before .before .before .before .before .before .before .before .before .before .before .before .before .before .before .before .before .pre .1 .0) (c .before .before .before .before .before .before .before .before .before .before .before .before .loop .inv .0) (c .before .before .before .before .before .before .before .before .before .before .before .before .loop .inv .1) (c .before .before .before .before .before .before .before .before .before .before .before .before .loop .inv .2), (c .before .before .before .before .before .before .before .before .before .before .before .before .loop .inv .4, (c .before .before .before .before .before .before .before .before .before .before .before .before .before .before .before .before .before .before .before .before .before .before .before .before .before .before .pre .1 .1 .1, s-below (c .before .before .before .before .before)))))
 
 loop-less : tie.Need-loop-less Inv-loop μ-loop
 unfolding graph-at
-loop-less c = turn-less _ (c .before .before .before .before .before .before .before .before .before .before .before .before .before .before .before .before .before .before .before .before .before .before .before .before .before .before .before .before .before .before .before .before .before .args .goal) _ _ (fits (c .before .before .before .before .before .before .before .before .before .before .before .before .before .before)) (picked (c .before .before .before .before .before .before .before .before .before .before .before .before .before .before)) (c .before .before .before .before .before .before .before .before .settle .ensures .0)
+loop-less c = turn-less _ (c .before .before .before .before .before .before .before .before .before .before .before .before .before .before .before .before .before .before .before .before .before .before .before .before .before .before .before .before .before .before .before .before .before .before .before .args .goal) _ _ (fits (c .before .before .before .before .before .before .before .before .before .before .before .before .before .before)) (picked (c .before .before .before .before .before .before .before .before .before .before .before .before .before .before)) (c .before .before .before .before .before .before .before .before .settle .ensures .0)
 
 loop-again : tie.Need-loop-again Inv-loop μ-loop
 unfolding graph-at
