@@ -4,4 +4,6 @@ pub mod Records
 pub mod Through
 pub mod Filled
 pub mod Offered
+pub mod Nodes
+pub mod ByTable
 pub mod Rows

@@ -3,7 +3,7 @@ use Prim.Native.Nat.{ℕ, zero, suc, _+_, _*_, _<_}
 use native.Mathlib.Nat.{zero-mul}
 use native.Mathlib.Numerals.{add-one}
 use native.Mathlib.Omega.{arith}
-use mathlib.Core.Path.{_≡_, refl, sym, ap, _∙_, subst, fun-ext}
+use mathlib.Core.Path.{_≡_, refl, sym, ap, _∙_, subst}
 use mathlib.Core.Bool.{Bool, false, _||_}
 use mathlib.Core.List.{List}
 use lib.ListN.{length, getD, set}
@@ -15,10 +15,10 @@ use Rattle.binary64.specs.Values.{pzero}
 use Rattle.journal.specs.Row.{Fix, Row, Given, noCandidate, count, candidateOf, beforeOf, candidateGiven, fixGiven}
 use Rattle.journal.specs.declared.record.Candidate.{Candidate}
 use Rattle.journal.proofs.Lists.{length-number, getD-number}
-use Rattle.transition.specs.declared.step.Step.{Step}
 use Rattle.rows.specs.Row.{StepScore, offer}
 use Rattle.rows.specs.Scoring.{offerTo, bestOffer, Offered}
 use Rattle.rows.specs.declared.offers.Offers.{Offers}
+use Rattle.rows.proofs.Best.{offers-same}
 use Rattle.rows.proofs.Filled.{filled-none, filled-turn}
 
 -- ---- own candidates
@@ -47,11 +47,13 @@ pairs-many (suc n) before = rw (ne-eqb (suc n) 0 (λ (e : suc n ≡ 0). omega ar
 pub offered-none : (step : StepScore) (p : Row) (f : Fix) (before : ℕ) (parents : List ℕ) (scores : List Float) → Offered 0 step p f before false parents scores parents scores
 offered-none step p f before parents scores = record { to-any = sym (any-none _); filled = filled-none _ parents scores }
 
--- what is found from own candidate k and its distances is the best offer to it, and goes into the slices at k
-module _ (step : StepScore) (g : Given) (p : Row) (before k : ℕ) (h : k < length (g .elements)) {b : Candidate} {r : Offers} (own : b ≡ candidateGiven g k (getD (g .elements) k 0))
-    (best : r ≡ bestOffer (λ j. offerTo step p b (getD (g .distances) (j * length (g .elements) + k) pzero) j) before) where
+-- what is found from own candidate k and its distances, by steps that offer the same, is the best offer to it, and goes into the slices at k
+module _ (step : StepScore) (steps : ℕ → StepScore) (g : Given) (p : Row) (before k : ℕ) (h : k < length (g .elements))
+    (same : (j : ℕ) → j < before → offer (steps j) p (fixGiven g) k j ≡ offer step p (fixGiven g) k j)
+    {b : Candidate} {r : Offers} (own : b ≡ candidateGiven g k (getD (g .elements) k 0))
+    (best : r ≡ bestOffer (λ j. offerTo (steps j) p b (getD (g .distances) (j * length (g .elements) + k) pzero) j) before) where
   best-given : r ≡ bestOffer (offer step p (fixGiven g) k) before
-  best-given = best ∙ rw own (ap (λ (o : ℕ → Step). bestOffer o before) (fun-ext (λ j. offer-given g step p k j h)))
+  best-given = best ∙ rw own (offers-same _ _ before (λ j l. offer-given g (steps j) p k j h ∙ same j l))
 
   pub offered-turn : {so now : Bool} {parents₀ : List ℕ} {scores₀ : List Float} {parents : List ℕ} {scores : List Float}
       → Offered k step p (fixGiven g) before so parents₀ scores₀ parents scores → k < length parents₀ → k < length scores₀ → now ≡ so || r .possible

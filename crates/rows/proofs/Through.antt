@@ -1,6 +1,6 @@
 -- Offers of one pair, by the case of the code. Assumes nothing.
-use Prim.Native.Nat.{ℕ, suc, _+_, _*_, _<_, _≤_}
-use native.Mathlib.Nat.{mul-comm, mul-le-mul-right, suc-mul}
+use Prim.Native.Nat.{ℕ, _+_, _*_, _<_, _≤_}
+use native.Mathlib.Nat.{mul-comm}
 use native.Mathlib.Omega.{arith}
 use mathlib.Core.Path.{_≡_, refl, _∙_}
 use mathlib.Core.Bool.{true, false}
@@ -8,6 +8,7 @@ use lib.Ieee.{Float}
 use lib.Ieee.Scale.{finite}
 use Rattle.transition.specs.declared.step.Step.{Step}
 use Rattle.transition.specs.declared.step.Step.the-variants.{Possible, Impossible}
+use Rattle.transition.proofs.Held.{row-below}
 use Rattle.rows.specs.Row.{_⊕_, through}
 
 -- from no finite score
@@ -24,7 +25,8 @@ module _ (s : Float) (step : Step) (l : Float) where
 
 -- the distance of a pair is one of the fix's
 pub pair-inside : (count before n i j : ℕ) → i < count → j < before → n ≡ count * before → j * count + i < n
-pair-inside count before n i j h k e =
-    let rows : suc j * count ≤ before * count = mul-le-mul-right count k in
-    let next : suc j * count ≡ j * count + count = suc-mul j count in
-    omega (arith, rows, next, e ∙ mul-comm count before)
+pair-inside count before n i j h k e = omega (arith, row-below count j before i h k, e ∙ mul-comm count before)
+
+-- and its routes are in the table
+pub pair-held : (count before n i j : ℕ) → i < count → j < before → 2 * before * (2 * count) ≤ n → (2 * j + 1) * (2 * count) + (2 * i + 1) < n
+pair-held count before n i j h k e = omega (arith, row-below (2 * count) (2 * j + 1) (2 * before) (2 * i + 1) (omega arith) (omega arith), e)

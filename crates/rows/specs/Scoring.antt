@@ -88,10 +88,12 @@ pub record Offered (n : ℕ) (step : StepScore) (p : Row) (f : Fix) (before : �
 
 -- ---- scoring a row
 
--- what is asked: an accepted network, a fix with fields of one count and known elements, the predecessor's record at the head of the words with `before`
--- candidates and known elements (0: no predecessor), a distance for each pair, and room for the candidates
+-- what is asked: an accepted network, a fix of at most 16 candidates with fields of one count and known elements, the predecessor's record at the head of
+-- the words with `before` candidates, 16 at most, and known elements (0: no predecessor), a distance for each pair, and room for the candidates
 pub record Scorable (net : Network) (g : Given) (words : List ℕ) (before : ℕ) (parents : List ℕ) (scores : List Float) : Type 0 where
   pub accepted : checked net ≡ Accepted
+  pub few : length (g .elements) ≤ 16
+  pub few-before : before ≤ 16
   pub intrinsics : length (g .intrinsics) ≡ length (g .elements)
   pub near : length (g .near) ≡ length (g .elements)
   pub rawLogs : length (g .rawLogs) ≡ length (g .elements)

@@ -1,15 +1,15 @@
 // What a candidate of the predecessor offers to an own candidate.
 use journal::float::is_finite;
 use journal::record::Candidate;
-use routing::network::Checked;
+use transition::routes::Routes;
 use transition::step::Settings;
 use transition::step::Step;
-use transition::step::compute_log_transition;
+use transition::step::step_through;
 ghost use mathlib.Core.Path.{_≡_};
 ghost use Prim.Native.Nat.{_<_};
 ghost use lib.ListN.{length};
-ghost use Rattle.routing.specs.Network.{networkOf, checked};
-ghost use Rattle.transition.specs.Step.{transition};
+ghost use Rattle.transition.specs.Place.{Elements};
+ghost use Rattle.transition.specs.Step.{stepThrough};
 ghost use Rattle.rows.specs.Row.{flooredLog, floored, through};
 
 // The log of EMISSION_FLOOR, 1e-10.
@@ -30,40 +30,21 @@ pub fn offer(
     lengths: &[f64],
     headings: &[f64],
     flags: &[u32],
-    from: &[u32],
-    to: &[u32],
-    from_side: &[u32],
-    to_side: &[u32],
-    forward: &[u32],
-    backward: &[u32],
     a: Candidate,
     previous: f64,
     b: Candidate,
+    routes: Routes,
     distance: f64,
     settings: Settings,
 ) -> Step
-    requires { ⌜ checked (networkOf (now lengths) (now headings) (now flags) (now from) (now to) (now «from_side») (now «to_side») (now forward) (now backward)) ≡ Checked.Accepted ⌝ }
+    requires { ⌜ Elements (now lengths) (now headings) (now flags) ⌝ }
     requires { ⌜ (a .element < length (now lengths)) × (b .element < length (now lengths)) ⌝ }
-    ensures { λ r. ⌜ r ≡ through previous (transition (networkOf (now (lengths .entry)) (now (headings .entry)) (now (flags .entry)) (now (from .entry)) (now (to .entry)) (now («from_side» .entry)) (now («to_side» .entry)) (now (forward .entry)) (now (backward .entry))) settings a b distance) (floored b) ⌝ }
+    ensures { λ r. ⌜ r ≡ through previous (stepThrough (now (lengths .entry)) (now (headings .entry)) (now (flags .entry)) settings routes a b distance) (floored b) ⌝ }
 {
     if !is_finite(previous) {
         return Step::Impossible;
     }
-    let step = compute_log_transition(
-        lengths,
-        headings,
-        flags,
-        from,
-        to,
-        from_side,
-        to_side,
-        forward,
-        backward,
-        a,
-        b,
-        distance,
-        settings,
-    );
+    let step = step_through(lengths, headings, flags, a, b, routes, distance, settings);
     match step {
         Step::Possible(v) => Step::Possible((previous + v) + floored_log(b.raw_log)),
         Step::Impossible => Step::Impossible,

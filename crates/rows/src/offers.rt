@@ -5,17 +5,19 @@ use crate::previous::candidate_of;
 use crate::previous::score_of;
 use binary64::minus_infinity;
 use journal::record::Candidate;
-use routing::network::Checked;
+use transition::costs::routes_at;
+use transition::routes::Routes;
 use transition::step::Settings;
 use transition::step::Step;
 ghost use mathlib.Core.Path.{_≡_};
-ghost use Prim.Native.Nat.{_+_, _*_, _<_};
+ghost use Prim.Native.Nat.{_+_, _*_, _<_, _≤_};
 ghost use lib.ListN.{length, getD};
 ghost use Rattle.binary64.specs.Values.{pzero};
-ghost use Rattle.routing.specs.Network.{networkOf, checked};
 ghost use Rattle.journal.specs.Row.{cellOf};
 ghost use Rattle.journal.specs.Record.{readRow};
-ghost use Rattle.transition.specs.Step.{transition};
+ghost use Rattle.transition.specs.Place.{Elements};
+ghost use Rattle.transition.specs.Costs.{routesAt};
+ghost use Rattle.transition.specs.Step.{stepThrough};
 ghost use Rattle.rows.specs.Scoring.{CandidateStands, RecordKnown, offerTo, betterOffer, bestOffer};
 
 // The best offer so far, minus infinity for none, and whether one was possible.
@@ -62,66 +64,42 @@ fn offer_of(
     lengths: &[f64],
     headings: &[f64],
     flags: &[u32],
-    from: &[u32],
-    to: &[u32],
-    from_side: &[u32],
-    to_side: &[u32],
-    forward: &[u32],
-    backward: &[u32],
     words: &[u32],
     j: usize,
     b: Candidate,
+    routes: Routes,
     distance: f64,
     settings: Settings,
 ) -> Step
-    requires { ⌜ checked (networkOf (now lengths) (now headings) (now flags) (now from) (now to) (now «from_side») (now «to_side») (now forward) (now backward)) ≡ Checked.Accepted ⌝ }
+    requires { ⌜ Elements (now lengths) (now headings) (now flags) ⌝ }
     requires { ⌜ CandidateStands (now words) j ⌝ }
     requires { ⌜ (cellOf (readRow (now words)) j .candidate .element < length (now lengths)) × (b .element < length (now lengths)) ⌝ }
-    ensures { λ r. ⌜ r ≡ offerTo (transition (networkOf (now (lengths .entry)) (now (headings .entry)) (now (flags .entry)) (now (from .entry)) (now (to .entry)) (now («from_side» .entry)) (now («to_side» .entry)) (now (forward .entry)) (now (backward .entry))) settings) (readRow (now (words .entry))) b distance j ⌝ }
+    ensures { λ r. ⌜ r ≡ offerTo (stepThrough (now (lengths .entry)) (now (headings .entry)) (now (flags .entry)) settings routes) (readRow (now (words .entry))) b distance j ⌝ }
 {
     let a = candidate_of(words, j);
     let previous = score_of(words, j);
-    offer(
-        lengths,
-        headings,
-        flags,
-        from,
-        to,
-        from_side,
-        to_side,
-        forward,
-        backward,
-        a,
-        previous,
-        b,
-        distance,
-        settings,
-    )
+    offer(lengths, headings, flags, a, previous, b, routes, distance, settings)
 }
 
-// The best of the offers of all predecessor candidates to own candidate i, which is b, the first of equals.
+// The best of the offers of all predecessor candidates to own candidate i, which is b, the first of equals. The routes are those of a table.
 pub fn best_offer(
     lengths: &[f64],
     headings: &[f64],
     flags: &[u32],
-    from: &[u32],
-    to: &[u32],
-    from_side: &[u32],
-    to_side: &[u32],
-    forward: &[u32],
-    backward: &[u32],
     words: &[u32],
     before: usize,
     b: Candidate,
+    found: &[f64],
     distances: &[f64],
     count: usize,
     i: usize,
     settings: Settings,
 ) -> Offers
-    requires { ⌜ checked (networkOf (now lengths) (now headings) (now flags) (now from) (now to) (now «from_side») (now «to_side») (now forward) (now backward)) ≡ Checked.Accepted ⌝ }
+    requires { ⌜ Elements (now lengths) (now headings) (now flags) ⌝ }
     requires { ⌜ RecordKnown (length (now lengths)) (now words) before ⌝ }
     requires { ⌜ (b .element < length (now lengths)) × (i < count) × (length (now distances) ≡ count * before) ⌝ }
-    ensures { λ r. ⌜ r ≡ bestOffer (λ j. offerTo (transition (networkOf (now (lengths .entry)) (now (headings .entry)) (now (flags .entry)) (now (from .entry)) (now (to .entry)) (now («from_side» .entry)) (now («to_side» .entry)) (now (forward .entry)) (now (backward .entry))) settings) (readRow (now (words .entry))) b (getD (now (distances .entry)) (j * count + i) pzero) j) before ⌝ }
+    requires { ⌜ 2 * before * (2 * count) ≤ length (now found) ⌝ }
+    ensures { λ r. ⌜ r ≡ bestOffer (λ j. offerTo (stepThrough (now (lengths .entry)) (now (headings .entry)) (now (flags .entry)) settings (routesAt (now (found .entry)) (2 * count) j i)) (readRow (now (words .entry))) b (getD (now (distances .entry)) (j * count + i) pzero) j) before ⌝ }
 {
     let mut best = Offers {
         parent: NO_PARENT,
@@ -129,22 +107,9 @@ pub fn best_offer(
         possible: false,
     };
     for j in 0..before {
-        let next = offer_of(
-            lengths,
-            headings,
-            flags,
-            from,
-            to,
-            from_side,
-            to_side,
-            forward,
-            backward,
-            words,
-            j,
-            b,
-            distance_of(distances, count, j, i),
-            settings,
-        );
+        let routes = routes_at(found, 2 * count, j, i);
+        let distance = distance_of(distances, count, j, i);
+        let next = offer_of(lengths, headings, flags, words, j, b, routes, distance, settings);
         best = better_offer(best, j as u32, next);
     }
     best

@@ -4,7 +4,9 @@ use crate::offers::best_offer;
 use crate::previous::NO_PARENT;
 use crate::previous::Previous;
 use crate::previous::best_previous;
+use crate::sides::pair_routes;
 use journal::record::Candidate;
+use transition::costs::no_routes;
 use transition::step::Settings;
 ghost use mathlib.Core.Path.{_≡_};
 ghost use mathlib.Core.Bool.{_||_};
@@ -94,21 +96,31 @@ fn offers_row(
     requires { ⌜ Scorable (networkOf (now lengths) (now headings) (now flags) (now from) (now to) (now «from_side») (now «to_side») (now forward) (now backward)) (givenOf (now elements) (now intrinsics) (now near) (now «raw_logs») (now distances)) (now words) before (now parents) (now scores) ⌝ }
     ensures { λ r. ⌜ Offered (length (now (elements .entry))) (transition (networkOf (now (lengths .entry)) (now (headings .entry)) (now (flags .entry)) (now (from .entry)) (now (to .entry)) (now («from_side» .entry)) (now («to_side» .entry)) (now (forward .entry)) (now (backward .entry))) settings) (readRow (now (words .entry))) (fixGiven (givenOf (now (elements .entry)) (now (intrinsics .entry)) (now (near .entry)) (now («raw_logs» .entry)) (now (distances .entry)))) before r (now (parents .entry)) (now (scores .entry)) (now (parents .exit)) (now (scores .exit)) ⌝ }
 {
+    let mut found = no_routes();
+    pair_routes(
+        lengths,
+        from,
+        to,
+        from_side,
+        to_side,
+        forward,
+        backward,
+        words,
+        before,
+        elements,
+        near,
+        &mut found,
+    );
     let mut possible = false;
     for i in 0..elements.len() {
         let best = best_offer(
             lengths,
             headings,
             flags,
-            from,
-            to,
-            from_side,
-            to_side,
-            forward,
-            backward,
             words,
             before,
             own_candidate(elements, intrinsics, near, raw_logs, i),
+            &found,
             distances,
             elements.len(),
             i,

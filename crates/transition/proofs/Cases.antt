@@ -2,10 +2,12 @@
 -- code. Assumes nothing.
 use mathlib.Core.Path.{_≡_, refl, sym, ap, _∙_}
 use Prim.Native.Nat.{ℕ}
-use mathlib.Core.Bool.{Bool, true, false, cond}
+use mathlib.Core.Bool.{Bool, true, false, not, _&&_, cond}
+use mathlib.Core.List.{List}
 use lib.Dec.{T, eqb}
 use lib.Ieee.{Float, binary64, neg, rem, lt, eq, fits, ofBits}
 use borrow.Author.Tests.{eq-eqb, ne-eqb}
+use Rattle.lists.proofs.Loops.{clash}
 use Rattle.binary64.specs.Values.{pzero}
 use Rattle.binary64.specs.Ranges.{inRange}
 use Rattle.routing.specs.Network.{Network, checked}
@@ -23,7 +25,7 @@ use Rattle.transition.specs.Settings.{betaFits, settingsFit}
 use Rattle.transition.specs.Place.{headingAt, placeAt, leaving, entering}
 use Rattle.transition.specs.Routes.{knownRoute, routesBy}
 use Rattle.transition.specs.Pair.{_⊕_, _⊖_, _⊗_, _⊘_, magnitude, partialNetelementDistance, routeDistance, folded, directionalHeadingDifference, distanceTerm, turnTerm, plusTerm, pairScore, greaterStep, greatest, pairScores, greatestPair}
-use Rattle.transition.specs.Step.{neitherNear, stepScore, transition}
+use Rattle.transition.specs.Step.{neitherNear, asksRoutes, stepScore, stepThrough, transition}
 use Rattle.transition.proofs.Differences.{magnitude-cond}
 
 -- ---- the literals of the code
@@ -199,6 +201,65 @@ module _ (a b : Candidate) where
   unfolding neitherNear
   near-second h = rw (eq-eqb (a .near) 0 h)
 
+-- ---- asks_routes
+
+module _ (a b : Candidate) where
+  pub asks-same : a .element ≡ b .element → false ≡ asksRoutes a b
+  unfolding asksRoutes
+  asks-same e = rw (eq-eqb (a .element) (b .element) e)
+
+  pub asks-other : {near : Bool} → (a .element ≡ b .element → ⊥) → near ≡ neitherNear a b → not near ≡ asksRoutes a b
+  unfolding asksRoutes
+  asks-other e h = rw (ne-eqb (a .element) (b .element) e, h)
+
+  pub asks-interior : neitherNear a b ≡ true → asksRoutes a b ≡ false
+  unfolding asksRoutes
+  asks-interior h = rw h (go (eqb (a .element) (b .element)))
+    where
+      go : (same : Bool) → not same && false ≡ false
+      go true = refl
+      go false = refl
+
+-- ---- step_through
+
+module _ (lengths headings : List Float) (flags : List ℕ) (settings : Settings) (routes : Routes) (a b : Candidate) (d : Float) where
+  pub through-same : eqb (a .element) (b .element) ≡ true → Possible (bits 0) ≡ stepThrough lengths headings flags settings routes a b d
+  unfolding stepThrough stepScore ofBits
+  through-same e = rw e
+
+  pub through-interior : eqb (a .element) (b .element) ≡ false → neitherNear a b ≡ true → Impossible ≡ stepThrough lengths headings flags settings routes a b d
+  unfolding stepThrough stepScore
+  through-interior e h = rw (e, h)
+
+  pub through-pairs : {from to : Place} {r : Step} → eqb (a .element) (b .element) ≡ false → neitherNear a b ≡ false
+      → from ≡ placeAt lengths headings flags (a .element) 0 → to ≡ placeAt lengths headings flags (b .element) 2
+      → r ≡ greatestPair settings a b from to routes d → r ≡ stepThrough lengths headings flags settings routes a b d
+  unfolding stepThrough stepScore
+  through-pairs other near p q h = rw (other, near, ← p, ← q) h
+
+-- routes do not matter where none are asked for
+score-unasked : (settings : Settings) (a b : Candidate) (from to : Place) (routes routes′ : Routes) (d : Float) → asksRoutes a b ≡ false
+    → stepScore settings a b from to routes d ≡ stepScore settings a b from to routes′ d
+unfolding stepScore asksRoutes
+score-unasked settings a b from to routes routes′ d = go (eqb (a .element) (b .element)) (neitherNear a b)
+  where
+    go : (same near : Bool) → not same && not near ≡ false
+        → cond same (Possible pzero) (cond near Impossible (greatestPair settings a b from to routes d)) ≡ cond same (Possible pzero) (cond near Impossible (greatestPair settings a b from to routes′ d))
+    go true near e = refl
+    go false true e = refl
+    go false false e = clash refl e
+
+pub through-unasked : (lengths headings : List Float) (flags : List ℕ) (settings : Settings) (a b : Candidate) (d : Float) (routes routes′ : Routes) → asksRoutes a b ≡ false
+    → stepThrough lengths headings flags settings routes a b d ≡ stepThrough lengths headings flags settings routes′ a b d
+unfolding stepThrough
+through-unasked lengths headings flags settings a b d routes routes′ = score-unasked settings a b _ _ routes routes′ d
+
+-- with the routes of the network it is the step score
+pub through-network : (net : Network) (settings : Settings) (a b : Candidate) (d : Float)
+    → stepThrough (net .graph .lengths) (net .headings) (net .flags) settings (routesBy (λ s s′. route (net .graph) (a .element) s (b .element) s′)) a b d ≡ transition net settings a b d
+unfolding transition stepThrough leaving entering
+through-network net settings a b d = refl
+
 -- ---- compute_log_transition
 
 module _ (net : Network) (accepted : checked net ≡ Accepted) where
@@ -210,20 +271,10 @@ module _ (net : Network) (accepted : checked net ≡ Accepted) where
   unfolding routesBy
   routes-accepted e e′ = rw (known-accepted e 0 e′ 0, known-accepted e 0 e′ 1, known-accepted e 1 e′ 0, known-accepted e 1 e′ 1)
 
-module _ (net : Network) (settings : Settings) (a b : Candidate) (d : Float) where
-  pub transition-same : eqb (a .element) (b .element) ≡ true → Possible (bits 0) ≡ transition net settings a b d
-  unfolding transition stepScore ofBits
-  transition-same e = rw e
+module _ (net : Network) (settings : Settings) (a b : Candidate) (d : Float) (routes : Routes) {r : Step}
+    (h : r ≡ stepThrough (net .graph .lengths) (net .headings) (net .flags) settings routes a b d) where
+  pub transition-unasked : asksRoutes a b ≡ false → r ≡ transition net settings a b d
+  transition-unasked e = h ∙ through-unasked (net .graph .lengths) (net .headings) (net .flags) settings a b d routes _ e ∙ through-network net settings a b d
 
-  pub transition-interior : eqb (a .element) (b .element) ≡ false → neitherNear a b ≡ true → Impossible ≡ transition net settings a b d
-  unfolding transition stepScore
-  transition-interior e h = rw (e, h)
-
-  pub transition-pairs : (from to : Place) (routes : Routes) (r : Step) → checked net ≡ Accepted → eqb (a .element) (b .element) ≡ false → neitherNear a b ≡ false
-      → routes ≡ routesBy (λ s s′. knownRoute (distanceOf net (a .element) s (b .element) s′))
-      → from ≡ placeAt (net .graph .lengths) (net .headings) (net .flags) (a .element) 0
-      → to ≡ placeAt (net .graph .lengths) (net .headings) (net .flags) (b .element) 2
-      → r ≡ greatestPair settings a b from to routes d → r ≡ transition net settings a b d
-  unfolding transition stepScore leaving entering
-  transition-pairs from to routes r accepted other near e p q h =
-      rw (other, near, ← routes-accepted net accepted (a .element) (b .element), ← e, ← p, ← q) h
+  pub transition-asked : checked net ≡ Accepted → routes ≡ routesBy (λ s s′. knownRoute (distanceOf net (a .element) s (b .element) s′)) → r ≡ transition net settings a b d
+  transition-asked accepted e = h ∙ rw (e, routes-accepted net accepted (a .element) (b .element)) (through-network net settings a b d)

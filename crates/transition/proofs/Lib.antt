@@ -9,6 +9,7 @@ pub mod Places
 pub mod Bound
 pub mod Greatest
 pub mod Found
+pub mod Held
 pub mod Best
 pub mod Zeros
 pub mod Cases

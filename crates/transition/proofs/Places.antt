@@ -11,7 +11,7 @@ use Rattle.binary64.proofs.Ranges.{range-high, clear-range-range, clear-range-c
 use Rattle.routing.specs.Network.{Network, count, longest, fullTurn, lengthFits, headingFits, checked}
 use Rattle.routing.specs.declared.network.Checked.the-variants.{Accepted}
 use Rattle.routing.proofs.Accepted.{accepted-counts, accepted-lengths, accepted-headings}
-use Rattle.transition.specs.Place.{placeAt, leaving, entering}
+use Rattle.transition.specs.Place.{Elements, placeAt, leaving, entering}
 use Rattle.transition.proofs.Parts.{UpTo, Within}
 use Rattle.transition.proofs.Range.{PlaceOk}
 
@@ -22,6 +22,11 @@ length-upTo x t = (clear-range-clear pzero longest x t, range-high pzero longest
 heading-within : (x : Float) → T (headingFits x) → Within fullTurn x
 unfolding headingFits
 heading-within x t = (open-range-low pzero fullTurn x t, lt→le x fullTurn (open-range-high pzero fullTurn x t))
+
+pub accepted-elements : (net : Network) → checked net ≡ Accepted → Elements (net .graph .lengths) (net .headings) (net .flags)
+accepted-elements net accepted =
+    let n = accepted-counts net accepted in
+    record { few = n .elements; four = n .headings; one = n .flags }
 
 module _ (net : Network) (accepted : checked net ≡ Accepted) (e : ℕ) (known : e < count (net .graph)) where
   place-ok : (offset : ℕ) → offset ≤ 2 → PlaceOk (placeAt (net .graph .lengths) (net .headings) (net .flags) e offset)

@@ -2,6 +2,7 @@
 pub mod Settings
 pub mod Place
 pub mod Routes
+pub mod Costs
 pub mod Pair
 pub mod Step
 pub mod Range

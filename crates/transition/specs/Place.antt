@@ -1,12 +1,19 @@
 -- What a step asks of an element that it leaves or enters.
-use Prim.Native.Nat.{ℕ, _+_, _*_}
+use Prim.Native.Nat.{ℕ, _+_, _*_, _≤_}
 use mathlib.Core.Bool.{cond}
 use mathlib.Core.List.{List}
+use mathlib.Core.Path.{_≡_}
 use lib.Dec.{eqb}
-use lib.ListN.{getD}
+use lib.ListN.{length, getD}
 use lib.Ieee.{Float, nan}
 use Rattle.routing.specs.Network.{Network}
 use Rattle.transition.specs.declared.place.Place.{Place}
+
+-- what is asked of the lists of a network's elements: at most 1,024 of them, four headings and a flag each
+pub record Elements (lengths headings : List Float) (flags : List ℕ) : Type 0 where
+  pub few : length lengths ≤ 1024
+  pub four : length headings ≡ 4 * length lengths
+  pub one : length flags ≡ length lengths
 
 -- an element's four headings are out at side 0, out at side 1, in at side 0, in at side 1: the two from `offset` on are read
 unfoldable pub placeAt : List Float → List Float → List ℕ → ℕ → ℕ → Place

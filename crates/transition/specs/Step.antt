@@ -1,5 +1,7 @@
 -- The step score (document 01, "Step score"): with the routes given, and over the network.
-use mathlib.Core.Bool.{Bool, _&&_, cond}
+use Prim.Native.Nat.{ℕ}
+use mathlib.Core.Bool.{Bool, not, _&&_, cond}
+use mathlib.Core.List.{List}
 use lib.Dec.{eqb}
 use lib.Ieee.{Float}
 use Rattle.binary64.specs.Values.{pzero}
@@ -11,12 +13,16 @@ use Rattle.transition.specs.declared.routes.Routes.{Routes}
 use Rattle.transition.specs.declared.step.Settings.{Settings}
 use Rattle.transition.specs.declared.step.Step.{Step}
 use Rattle.transition.specs.declared.step.Step.the-variants.{Possible, Impossible}
-use Rattle.transition.specs.Place.{leaving, entering}
+use Rattle.transition.specs.Place.{placeAt, leaving, entering}
 use Rattle.transition.specs.Routes.{routesBy}
 use Rattle.transition.specs.Pair.{greatestPair}
 
 unfoldable pub neitherNear : Candidate → Candidate → Bool
 neitherNear a b = eqb (a .near) 0 && eqb (b .near) 0
+
+-- whether the step score depends on routes: in its third case
+unfoldable pub asksRoutes : Candidate → Candidate → Bool
+asksRoutes a b = not (eqb (a .element) (b .element)) && not (neitherNear a b)
 
 -- 1: same element; 2: neither near; 3: over side pairs
 unfoldable pub stepScore : Settings → Candidate → Candidate → Place → Place → Routes → Float → Step
@@ -24,6 +30,11 @@ stepScore settings a b from to routes distance =
     cond (eqb (a .element) (b .element)) (Possible pzero)
     (cond (neitherNear a b) Impossible
     (greatestPair settings a b from to routes distance))
+
+-- by the lists of a network's elements, and the routes between a's element and b's
+unfoldable pub stepThrough : List Float → List Float → List ℕ → Settings → Routes → Candidate → Candidate → Float → Step
+stepThrough lengths headings flags settings routes a b distance =
+    stepScore settings a b (placeAt lengths headings flags (a .element) 0) (placeAt lengths headings flags (b .element) 2) routes distance
 
 -- the step from candidate a of the predecessor to own candidate b, at their distance
 unfoldable pub transition : Network → Settings → Candidate → Candidate → Float → Step

@@ -15,6 +15,17 @@ pub struct Routes {
     pub r11: Route,
 }
 
+// No route between any of the sides.
+pub fn unreachable() -> Routes {
+    let none = Route::Unreachable;
+    Routes {
+        r00: none,
+        r01: none,
+        r10: none,
+        r11: none,
+    }
+}
+
 // The route that was answered; a refused network has none.
 fn known_route(distance: Distance) -> Route
     ensures { λ r. ⌜ r ≡ knownRoute distance ⌝ }

@@ -1,7 +1,9 @@
 // The step score and its settings.
 use crate::pair::greatest_pair;
 use crate::place::place_at;
+use crate::routes::Routes;
 use crate::routes::routes_between;
+use crate::routes::unreachable;
 use binary64::in_range;
 use journal::record::Candidate;
 use routing::network::Checked;
@@ -10,7 +12,8 @@ ghost use Prim.Native.Nat.{_<_};
 ghost use lib.ListN.{length};
 ghost use Rattle.routing.specs.Network.{networkOf, checked};
 ghost use Rattle.transition.specs.Settings.{betaFits, settingsFit};
-ghost use Rattle.transition.specs.Step.{neitherNear, transition};
+ghost use Rattle.transition.specs.Place.{Elements};
+ghost use Rattle.transition.specs.Step.{neitherNear, asksRoutes, stepThrough, transition};
 
 pub struct Settings {
     pub beta: f64,
@@ -51,7 +54,45 @@ fn neither_near(a: Candidate, b: Candidate) -> bool
     false
 }
 
-// The step score over a network that was checked. Routes are searched for the third case only.
+// Whether the step between two candidates depends on routes.
+fn asks_routes(a: Candidate, b: Candidate) -> bool
+    ensures { λ r. ⌜ r ≡ asksRoutes a b ⌝ }
+{
+    if a.element == b.element {
+        return false;
+    }
+    !neither_near(a, b)
+}
+
+// The step score by the routes between the sides of the two elements.
+pub fn step_through(
+    lengths: &[f64],
+    headings: &[f64],
+    flags: &[u32],
+    a: Candidate,
+    b: Candidate,
+    routes: Routes,
+    distance: f64,
+    settings: Settings,
+) -> Step
+    requires { ⌜ Elements (now lengths) (now headings) (now flags) ⌝ }
+    requires { ⌜ (a .element < length (now lengths)) × (b .element < length (now lengths)) ⌝ }
+    ensures { λ r. ⌜ r ≡ stepThrough (now (lengths .entry)) (now (headings .entry)) (now (flags .entry)) settings routes a b distance ⌝ }
+{
+    let same = a.element == b.element;
+    let interior = neither_near(a, b);
+    if same {
+        return Step::Possible(0.0);
+    }
+    if interior {
+        return Step::Impossible;
+    }
+    let left = place_at(lengths, headings, flags, a.element, 0);
+    let entered = place_at(lengths, headings, flags, b.element, 2);
+    greatest_pair(a, b, left, entered, routes, distance, settings)
+}
+
+// The step score over a network that was checked. Routes are searched only where the score depends on them.
 pub fn compute_log_transition(
     lengths: &[f64],
     headings: &[f64],
@@ -71,13 +112,8 @@ pub fn compute_log_transition(
     requires { ⌜ (a .element < length (now lengths)) × (b .element < length (now lengths)) ⌝ }
     ensures { λ r. ⌜ r ≡ transition (networkOf (now (lengths .entry)) (now (headings .entry)) (now (flags .entry)) (now (from .entry)) (now (to .entry)) (now («from_side» .entry)) (now («to_side» .entry)) (now (forward .entry)) (now (backward .entry))) settings a b distance ⌝ }
 {
-    let same = a.element == b.element;
-    let interior = neither_near(a, b);
-    if same {
-        return Step::Possible(0.0);
-    }
-    if interior {
-        return Step::Impossible;
+    if !asks_routes(a, b) {
+        return step_through(lengths, headings, flags, a, b, unreachable(), distance, settings);
     }
     let routes = routes_between(
         lengths,
@@ -92,7 +128,5 @@ pub fn compute_log_transition(
         a.element,
         b.element,
     );
-    let left = place_at(lengths, headings, flags, a.element, 0);
-    let entered = place_at(lengths, headings, flags, b.element, 2);
-    greatest_pair(a, b, left, entered, routes, distance, settings)
+    step_through(lengths, headings, flags, a, b, routes, distance, settings)
 }

@@ -1,0 +1,158 @@
+-- Routes in one table: an entry stands for the route that it was made of, and row after row is filled. Assumes nothing.
+use mathlib.Core.Path.{_≡_, refl, sym, ap, subst, _∙_}
+use mathlib.Core.Bool.{Bool, true, false, cond}
+use mathlib.Core.List.{List, _++_}
+use mathlib.Core.Logic.{⊎-elim}
+use Prim.Native.Nat.{ℕ, zero, suc, _+_, _-_, _*_, _/_, _<_, _≤_}
+use native.Mathlib.Nat.{not-suc-le-zero, eq-or-lt-of-le, mul-le-mul-right, suc-mul}
+use native.Mathlib.Omega.{arith}
+use lib.Dec.{T, eqb, ltb}
+use lib.ListN.{length, getD, set, take, drop, length-drop, List·getD-append}
+use lib.Seq.{length-take-le, getD-take, getD-append-add, getD-set-same, getD-set-other}
+use lib.Ieee.{Float, nan, inf, lt}
+use borrow.Author.Tests.{lt-ltb}
+use Rattle.routing.specs.Network.{Graph, count}
+use Rattle.routing.specs.Walks.{node}
+use Rattle.routing.specs.Search.{Search, Ended, turn, arrive, run, next, settled, begun, searched}
+use Rattle.routing.specs.Route.{knownSide, endCost, costOfEnd, route}
+use Rattle.routing.specs.declared.route.Route.{Route}
+use Rattle.routing.specs.declared.route.Route.the-variants.{Cost, Unreachable}
+use Rattle.routing.specs.declared.search.Pick.{Pick}
+use Rattle.routing.specs.declared.search.Pick.the-variants.{At, Nothing}
+use Rattle.routing.proofs.LeastPick.{picked-finite}
+use Rattle.transition.specs.declared.routes.Routes.{Routes}
+use Rattle.transition.specs.Routes.{routesBy}
+use Rattle.transition.specs.Costs.{costOf, routeOf, entryAt, routesAt, RowFilled, RoutesHeld}
+
+-- ---- an entry
+
+-- only a cost below infinity stands for a route
+abbrev Finite : Route → Type 0
+Finite (Cost cost) = T (lt cost (inf false))
+Finite Unreachable = Unit {0}
+
+below : (cost : Float) (b : Bool) → T b → cond b (Cost cost) Unreachable ≡ Cost cost
+below cost true t = refl
+below cost false t = absurd t
+
+stands : (r : Route) → Finite r → routeOf (costOf r) ≡ r
+unfolding routeOf costOf
+stands (Cost cost) f = below cost (lt cost (inf false)) f
+stands Unreachable f = unfold lt in refl
+
+-- and no search ends at a state of another
+module _ (g : Graph) (goal : ℕ) where
+  arrive-finite : (b : Bool) (q : Search) (rest : ℕ → Ended) (s : ℕ) → ((t : ℕ) → Finite (costOfEnd (rest t))) → T (lt (getD (q .tables .costs) s nan) (inf false))
+      → Finite (costOfEnd (arrive b q rest s))
+  unfolding arrive costOfEnd endCost
+  arrive-finite true q rest s h f = f
+  arrive-finite false q rest s h f = h s
+
+  turn-finite : (q : Search) (rest : ℕ → Ended) (p : Pick) → ((t : ℕ) → Finite (costOfEnd (rest t))) → next g q ≡ p → Finite (costOfEnd (turn goal q rest p))
+  unfolding turn costOfEnd endCost next
+  turn-finite q rest (At s) h e = arrive-finite (eqb (s / 2) goal) q rest s h (picked-finite (q .tables .costs) (q .marks) (4 * count g) s e)
+  turn-finite q rest Nothing h e = tt
+
+  run-finite : (turns : ℕ) (q : Search) → Finite (costOfEnd (run g goal turns q))
+  unfolding run costOfEnd endCost
+  run-finite zero q = tt
+  run-finite (suc turns) q = turn-finite q (λ s. run g goal turns (settled g s q)) (next g q) (λ s. run-finite turns (settled g s q)) refl
+
+pub entry-stands : (g : Graph) (start goal : ℕ) {r : Route} {cost : Float} → r ≡ costOfEnd (searched g start goal) → cost ≡ costOf r → routeOf cost ≡ costOfEnd (searched g start goal)
+unfolding searched
+entry-stands g start goal e c = rw (c, e) (stands _ (run-finite g goal (4 * count g) (begun start)))
+
+-- ---- a row, entry after entry
+
+pub row-turn : (g : Graph) (start : ℕ) (goals : List ℕ) (found : List Float) (k : ℕ) (cost : Float) → k < length found
+    → ((i : ℕ) → i < k → routeOf (getD found i nan) ≡ costOfEnd (searched g start (getD goals i 0))) → routeOf cost ≡ costOfEnd (searched g start (getD goals k 0))
+    → (i : ℕ) → i < k + 1 → routeOf (getD (set found k cost) i nan) ≡ costOfEnd (searched g start (getD goals i 0))
+row-turn g start goals found k cost h held e i l =
+    ⊎-elim (λ (same : i ≡ k). rw (same, getD-set-same found k cost nan h) e)
+    (λ (less : i < k). rw (getD-set-other found k i cost nan (omega arith)) (held i less))
+    (eq-or-lt-of-le (omega arith))
+
+-- ---- rows
+
+pub row-below : (n r s k : ℕ) → k < n → r < s → r * n + k < s * n
+row-below n r s k h l =
+    let rows : suc r * n ≤ s * n = mul-le-mul-right n l in
+    let next : suc r * n ≡ r * n + n = suc-mul r n in
+    omega (arith, rows, next)
+
+pub row-fits : (n r s m : ℕ) → r < s → s * n ≤ m → r * n + n ≤ m
+row-fits n r s m l h =
+    let rows : suc r * n ≤ s * n = mul-le-mul-right n l in
+    let next : suc r * n ≡ r * n + n = suc-mul r n in
+    omega (arith, rows, next)
+
+pub some-columns : (n i : ℕ) → 2 * i + 1 < n → 0 < n
+some-columns n i h = omega arith
+
+-- a part of the table that is lent
+pub part-length : (found : List Float) (at n : ℕ) → at + n ≤ length found → length (take (at + n - at) (drop at found)) ≡ n
+part-length found at n h =
+    let there : n ≤ length (drop at found) = simp length-drop (omega arith) in
+    let long : at + n - at ≡ n = omega arith in
+    rw long (length-take-le n (drop at found) there)
+
+module _ (g : Graph) (start : ℕ) (goals : List ℕ) (at : ℕ) where
+  -- a start that is no node of the network
+  pub row-passed : (found : List Float) → 2 * count g ≤ start → RowFilled g start goals at found found
+  row-passed found h = record { entry = λ l. absurd (omega arith); earlier = λ i l. refl }
+
+  -- the part of the table that was lent came back with the row
+  pub row-filled : (found part : List Float) → at + length goals ≤ length found → length part ≡ length goals
+      → ((k : ℕ) → k < length goals → routeOf (getD part k nan) ≡ costOfEnd (searched g start (getD goals k 0)))
+      → RowFilled g start goals at found (take at found ++ (part ++ drop (at + length goals - at) (drop at found)))
+  row-filled found part room long held =
+      let front : length (take at found) ≡ at = length-take-le at found (omega arith) in
+      let last = drop (at + length goals - at) (drop at found) in
+      let rest = part ++ last in
+      record {
+        entry = λ l k h.
+            let there : getD (take at found ++ rest) (at + k) nan ≡ getD part k nan =
+                subst (λ (m : ℕ). getD (take at found ++ rest) (m + k) nan ≡ getD part k nan) front
+                (getD-append-add (take at found) rest k nan ∙ List·getD-append part last nan k (omega arith)) in
+            rw there (held k h);
+        earlier = λ i h. List·getD-append (take at found) rest nan i (omega arith) ∙ getD-take at found i nan h;
+      }
+
+module _ (g : Graph) (starts goals : List ℕ) where
+  pub held-none : (found : List Float) → RoutesHeld g starts goals 0 found
+  held-none found = record { entry = λ r k h. absurd (not-suc-le-zero h) }
+
+  pub held-turn : {n : ℕ} {found₀ found : List Float} → RoutesHeld g starts goals n found₀ → RowFilled g (getD starts n 0) goals (n * length goals) found₀ found
+      → RoutesHeld g starts goals (n + 1) found
+  unfolding entryAt
+  held-turn {n} held row = record { entry = λ r k h l m.
+      ⊎-elim (λ (same : r ≡ n). rw same (row .entry (rw same at m) k l))
+      (λ (less : r < n). ap routeOf (row .earlier (r * length goals + k) (row-below (length goals) r n k l less)) ∙ held .entry r k less l m)
+      (eq-or-lt-of-le (omega arith)) }
+
+  pub held-done : {n m : ℕ} {found : List Float} → RoutesHeld g starts goals n found → n ≡ m → RoutesHeld g starts goals m found
+  held-done {found = found} held e = subst (λ (n : ℕ). RoutesHeld g starts goals n found) e held
+
+-- ---- the routes between two candidates
+
+module _ (g : Graph) (e e′ : ℕ) (known : e < count g) (known′ : e′ < count g) where
+  route-known : (side side′ : ℕ) → side < 2 → side′ < 2 → route g e side e′ side′ ≡ costOfEnd (searched g (node e side) (node e′ side′))
+  unfolding route knownSide
+  route-known side side′ l l′ = rw (lt-ltb e (count g) known, lt-ltb side 2 l, lt-ltb e′ (count g) known′, lt-ltb side′ 2 l′)
+
+  module _ {starts goals : List ℕ} {n : ℕ} {found : List Float} (held : RoutesHeld g starts goals n found) where
+    entry-route : (r k side side′ : ℕ) → r < n → k < length goals → side < 2 → side′ < 2 → getD starts r 0 ≡ node e side → getD goals k 0 ≡ node e′ side′
+        → entryAt found (length goals) r k ≡ route g e side e′ side′
+    entry-route r k side side′ h l s t p q =
+        held .entry r k h l (rw p (unfold node in omega arith)) ∙ rw (p, q, route-known side side′ s t)
+
+    pub routes-held : (j i : ℕ) → 2 * j + 1 < n → 2 * i + 1 < length goals
+        → getD starts (2 * j) 0 ≡ node e 0 → getD starts (2 * j + 1) 0 ≡ node e 1 → getD goals (2 * i) 0 ≡ node e′ 0 → getD goals (2 * i + 1) 0 ≡ node e′ 1
+        → routesAt found (length goals) j i ≡ routesBy (λ side side′. route g e side e′ side′)
+    unfolding routesAt routesBy
+    routes-held j i h l p₀ p₁ q₀ q₁ =
+        let r00 = entry-route (2 * j) (2 * i) 0 0 (omega arith) (omega arith) (omega arith) (omega arith) p₀ q₀ in
+        let r01 = entry-route (2 * j) (2 * i + 1) 0 1 (omega arith) (omega arith) (omega arith) (omega arith) p₀ q₁ in
+        let r10 = entry-route (2 * j + 1) (2 * i) 1 0 (omega arith) (omega arith) (omega arith) (omega arith) p₁ q₀ in
+        let r11 = entry-route (2 * j + 1) (2 * i + 1) 1 1 (omega arith) (omega arith) (omega arith) (omega arith) p₁ q₁ in
+        rw (r00, r01, r10, r11)
