@@ -44,7 +44,7 @@ fn known_side(elements: usize, element: u32, side: u32) -> bool
 }
 
 // The cost of the cheapest route between two nodes.
-pub fn distance_between(
+fn distance_between(
     lengths: &[f64],
     from: &[u32],
     to: &[u32],

@@ -102,12 +102,14 @@ module _ (g : Graph) (p : Row) (before : ℕ) (elements near : List ℕ) {starts
     (known : (j : ℕ) → j < before → cellOf p j .candidate .element < count g) (known′ : (i : ℕ) → i < length elements → getD elements i 0 < count g)
     (long : 2 * before ≤ length starts) (long′ : 2 * length elements ≤ length goals) where
   pub pairs-held : RoutesHeld g (take (2 * before) starts) (take (2 * length elements) goals) (length (take (2 * before) starts)) found → PairRoutes g p before elements near found
-  pairs-held held = record { routes = λ j i h l e.
-      let rows = length-take-le (2 * before) starts long in
-      let columns = length-take-le (2 * length elements) goals long′ in
-      subst (λ (n : ℕ). routesAt found n j i ≡ routesBy (λ side side′. route g (cellOf p j .candidate .element) side (getD elements i 0) side′)) columns
-      (routes-held g _ _ (known j h) (known′ i l) held j i (omega (arith, rows)) (omega (arith, columns))
-      (getD-take (2 * before) starts (2 * j) 0 (omega arith) ∙ from .side0 j h e)
-      (getD-take (2 * before) starts (2 * j + 1) 0 (omega arith) ∙ from .side1 j h e)
-      (getD-take (2 * length elements) goals (2 * i) 0 (omega arith) ∙ to .side0 i l refl)
-      (getD-take (2 * length elements) goals (2 * i + 1) 0 (omega arith) ∙ to .side1 i l refl)) }
+  pairs-held held = record {
+    routes = λ j i h l e.
+        let rows = length-take-le (2 * before) starts long in
+        let columns = length-take-le (2 * length elements) goals long′ in
+        subst (λ (n : ℕ). routesAt found n j i ≡ routesBy (λ side side′. route g (cellOf p j .candidate .element) side (getD elements i 0) side′)) columns
+        (routes-held g _ _ (known j h) (known′ i l) held j i (omega (arith, rows)) (omega (arith, columns))
+        (getD-take (2 * before) starts (2 * j) 0 (omega arith) ∙ from .side0 j h e)
+        (getD-take (2 * before) starts (2 * j + 1) 0 (omega arith) ∙ from .side1 j h e)
+        (getD-take (2 * length elements) goals (2 * i) 0 (omega arith) ∙ to .side0 i l refl)
+        (getD-take (2 * length elements) goals (2 * i + 1) 0 (omega arith) ∙ to .side1 i l refl));
+  }

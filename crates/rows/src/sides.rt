@@ -2,6 +2,9 @@
 use crate::previous::candidate_of;
 use crate::previous::score_of;
 use journal::float::is_finite;
+use routing::index::index_links;
+use routing::index::no_heads;
+use routing::index::no_nexts;
 use transition::costs::fill_routes;
 ghost use mathlib.Core.Path.{_≡_};
 ghost use mathlib.Core.Bool.{true, cond};
@@ -110,6 +113,19 @@ pub fn pair_routes(
     requires { ⌜ (before ≤ 16) × (length (now elements) ≤ 16) × (1024 ≤ length (now found)) ⌝ }
     ensures { λ _. ⌜ PairRoutes (graphOf (now (lengths .entry)) (now (from .entry)) (now (to .entry)) (now («from_side» .entry)) (now («to_side» .entry)) (now (forward .entry)) (now (backward .entry))) (readRow (now (words .entry))) before (now (elements .entry)) (now (near .entry)) (now (found .exit)) ⌝ }
 {
+    let mut heads = no_heads();
+    let mut nexts = no_nexts();
+    index_links(
+        lengths,
+        from,
+        to,
+        from_side,
+        to_side,
+        forward,
+        backward,
+        &mut heads,
+        &mut nexts,
+    );
     let mut starts = no_nodes();
     let mut goals = no_nodes();
     start_nodes(words, before, any_near(near), &mut starts);
@@ -124,6 +140,8 @@ pub fn pair_routes(
         to_side,
         forward,
         backward,
+        &heads,
+        &nexts,
         &starts[..m],
         &goals[..n],
         found,

@@ -1,76 +1,23 @@
--- Routes in one table: an entry stands for the route that it was made of, and row after row is filled. Assumes nothing.
+-- Routes in one table: row after row is filled. Assumes nothing.
 use mathlib.Core.Path.{_≡_, refl, sym, ap, subst, _∙_}
-use mathlib.Core.Bool.{Bool, true, false, cond}
 use mathlib.Core.List.{List, _++_}
 use mathlib.Core.Logic.{⊎-elim}
-use Prim.Native.Nat.{ℕ, zero, suc, _+_, _-_, _*_, _/_, _<_, _≤_}
+use Prim.Native.Nat.{ℕ, suc, _+_, _-_, _*_, _<_, _≤_}
 use native.Mathlib.Nat.{not-suc-le-zero, eq-or-lt-of-le, mul-le-mul-right, suc-mul}
 use native.Mathlib.Omega.{arith}
-use lib.Dec.{T, eqb, ltb}
-use lib.ListN.{length, getD, set, take, drop, length-drop, List·getD-append}
-use lib.Seq.{length-take-le, getD-take, getD-append-add, getD-set-same, getD-set-other}
-use lib.Ieee.{Float, nan, inf, lt}
+use lib.Dec.{ltb}
+use lib.ListN.{length, getD, take, drop, length-drop, List·getD-append}
+use lib.Seq.{length-take-le, getD-take, getD-append-add}
+use lib.Ieee.{Float, nan}
 use borrow.Author.Tests.{lt-ltb}
 use Rattle.routing.specs.Network.{Graph, count}
 use Rattle.routing.specs.Walks.{node}
-use Rattle.routing.specs.Search.{Search, Ended, turn, arrive, run, next, settled, begun, searched}
-use Rattle.routing.specs.Route.{knownSide, endCost, costOfEnd, route}
-use Rattle.routing.specs.declared.route.Route.{Route}
-use Rattle.routing.specs.declared.route.Route.the-variants.{Cost, Unreachable}
-use Rattle.routing.specs.declared.search.Pick.{Pick}
-use Rattle.routing.specs.declared.search.Pick.the-variants.{At, Nothing}
-use Rattle.routing.proofs.LeastPick.{picked-finite}
+use Rattle.routing.specs.Search.{searched}
+use Rattle.routing.specs.Route.{knownSide, costOfEnd, route}
+use Rattle.routing.specs.Goals.{routeOf}
 use Rattle.transition.specs.declared.routes.Routes.{Routes}
 use Rattle.transition.specs.Routes.{routesBy}
-use Rattle.transition.specs.Costs.{costOf, routeOf, entryAt, routesAt, RowFilled, RoutesHeld}
-
--- ---- an entry
-
--- only a cost below infinity stands for a route
-abbrev Finite : Route → Type 0
-Finite (Cost cost) = T (lt cost (inf false))
-Finite Unreachable = Unit {0}
-
-below : (cost : Float) (b : Bool) → T b → cond b (Cost cost) Unreachable ≡ Cost cost
-below cost true t = refl
-below cost false t = absurd t
-
-stands : (r : Route) → Finite r → routeOf (costOf r) ≡ r
-unfolding routeOf costOf
-stands (Cost cost) f = below cost (lt cost (inf false)) f
-stands Unreachable f = unfold lt in refl
-
--- and no search ends at a state of another
-module _ (g : Graph) (goal : ℕ) where
-  arrive-finite : (b : Bool) (q : Search) (rest : ℕ → Ended) (s : ℕ) → ((t : ℕ) → Finite (costOfEnd (rest t))) → T (lt (getD (q .tables .costs) s nan) (inf false))
-      → Finite (costOfEnd (arrive b q rest s))
-  unfolding arrive costOfEnd endCost
-  arrive-finite true q rest s h f = f
-  arrive-finite false q rest s h f = h s
-
-  turn-finite : (q : Search) (rest : ℕ → Ended) (p : Pick) → ((t : ℕ) → Finite (costOfEnd (rest t))) → next g q ≡ p → Finite (costOfEnd (turn goal q rest p))
-  unfolding turn costOfEnd endCost next
-  turn-finite q rest (At s) h e = arrive-finite (eqb (s / 2) goal) q rest s h (picked-finite (q .tables .costs) (q .marks) (4 * count g) s e)
-  turn-finite q rest Nothing h e = tt
-
-  run-finite : (turns : ℕ) (q : Search) → Finite (costOfEnd (run g goal turns q))
-  unfolding run costOfEnd endCost
-  run-finite zero q = tt
-  run-finite (suc turns) q = turn-finite q (λ s. run g goal turns (settled g s q)) (next g q) (λ s. run-finite turns (settled g s q)) refl
-
-pub entry-stands : (g : Graph) (start goal : ℕ) {r : Route} {cost : Float} → r ≡ costOfEnd (searched g start goal) → cost ≡ costOf r → routeOf cost ≡ costOfEnd (searched g start goal)
-unfolding searched
-entry-stands g start goal e c = rw (c, e) (stands _ (run-finite g goal (4 * count g) (begun start)))
-
--- ---- a row, entry after entry
-
-pub row-turn : (g : Graph) (start : ℕ) (goals : List ℕ) (found : List Float) (k : ℕ) (cost : Float) → k < length found
-    → ((i : ℕ) → i < k → routeOf (getD found i nan) ≡ costOfEnd (searched g start (getD goals i 0))) → routeOf cost ≡ costOfEnd (searched g start (getD goals k 0))
-    → (i : ℕ) → i < k + 1 → routeOf (getD (set found k cost) i nan) ≡ costOfEnd (searched g start (getD goals i 0))
-row-turn g start goals found k cost h held e i l =
-    ⊎-elim (λ (same : i ≡ k). rw (same, getD-set-same found k cost nan h) e)
-    (λ (less : i < k). rw (getD-set-other found k i cost nan (omega arith)) (held i less))
-    (eq-or-lt-of-le (omega arith))
+use Rattle.transition.specs.Costs.{entryAt, routesAt, RowFilled, RoutesHeld}
 
 -- ---- rows
 
@@ -112,8 +59,8 @@ module _ (g : Graph) (start : ℕ) (goals : List ℕ) (at : ℕ) where
       record {
         entry = λ l k h.
             let there : getD (take at found ++ rest) (at + k) nan ≡ getD part k nan =
-                subst (λ (m : ℕ). getD (take at found ++ rest) (m + k) nan ≡ getD part k nan) front
-                (getD-append-add (take at found) rest k nan ∙ List·getD-append part last nan k (omega arith)) in
+            subst (λ (m : ℕ). getD (take at found ++ rest) (m + k) nan ≡ getD part k nan) front
+            (getD-append-add (take at found) rest k nan ∙ List·getD-append part last nan k (omega arith)) in
             rw there (held k h);
         earlier = λ i h. List·getD-append (take at found) rest nan i (omega arith) ∙ getD-take at found i nan h;
       }
@@ -125,10 +72,12 @@ module _ (g : Graph) (starts goals : List ℕ) where
   pub held-turn : {n : ℕ} {found₀ found : List Float} → RoutesHeld g starts goals n found₀ → RowFilled g (getD starts n 0) goals (n * length goals) found₀ found
       → RoutesHeld g starts goals (n + 1) found
   unfolding entryAt
-  held-turn {n} held row = record { entry = λ r k h l m.
-      ⊎-elim (λ (same : r ≡ n). rw same (row .entry (rw same at m) k l))
-      (λ (less : r < n). ap routeOf (row .earlier (r * length goals + k) (row-below (length goals) r n k l less)) ∙ held .entry r k less l m)
-      (eq-or-lt-of-le (omega arith)) }
+  held-turn {n} held row = record {
+    entry = λ r k h l m.
+        ⊎-elim (λ (same : r ≡ n). rw same (row .entry (rw same at m) k l))
+        (λ (less : r < n). ap routeOf (row .earlier (r * length goals + k) (row-below (length goals) r n k l less)) ∙ held .entry r k less l m)
+        (eq-or-lt-of-le (omega arith));
+  }
 
   pub held-done : {n m : ℕ} {found : List Float} → RoutesHeld g starts goals n found → n ≡ m → RoutesHeld g starts goals m found
   held-done {found = found} held e = subst (λ (n : ℕ). RoutesHeld g starts goals n found) e held

@@ -1,26 +1,18 @@
 -- Routes in one table of costs: a row for each start, in it an entry for each goal. Starts and goals are nodes.
 use Prim.Native.Nat.{ℕ, _+_, _*_, _<_}
 use mathlib.Core.Path.{_≡_}
-use mathlib.Core.Bool.{false, cond}
+use mathlib.Core.Bool.{false}
 use mathlib.Core.List.{List}
 use lib.ListN.{length, getD, replicate}
-use lib.Ieee.{Float, nan, inf, lt}
+use lib.Ieee.{Float, nan, inf}
 use Rattle.routing.specs.Network.{Graph, count}
 use Rattle.routing.specs.Search.{searched}
 use Rattle.routing.specs.Route.{costOfEnd}
+use Rattle.routing.specs.Goals.{routeOf}
 use Rattle.routing.specs.declared.route.Route.{Route}
-use Rattle.routing.specs.declared.route.Route.the-variants.{Cost, Unreachable}
 use Rattle.transition.specs.declared.routes.Routes.{Routes}
 
 -- ---- entries
-
--- the cost, infinity for no route
-unfoldable pub costOf : Route → Float
-costOf (Cost cost) = cost
-costOf Unreachable = inf false
-
-unfoldable pub routeOf : Float → Route
-routeOf cost = cond (lt cost (inf false)) (Cost cost) Unreachable
 
 -- 1,024 entries, none a route. Shut, so that nothing computes them unasked
 unfoldable pub noRoutes : List Float

@@ -1,17 +1,17 @@
-// Routes in one table: a row for each start, in it the cost to each goal. Starts and goals are nodes, 2 * element + side.
+// Routes in one table: a row for each start, in it the cost to each goal. Starts and goals are nodes, 2 * element + side; `heads` and `nexts` are the
+// network's index.
 use crate::routes::Routes;
 use binary64::infinity;
+use routing::goals::distances_from;
+use routing::goals::route_of;
 use routing::route::Route;
-use routing::route::distance_between;
 ghost use mathlib.Core.Path.{_≡_};
-ghost use Prim.Native.Nat.{ℕ, _+_, _*_, _<_, _≤_};
-ghost use lib.ListN.{length, getD};
-ghost use lib.Ieee.{nan};
-ghost use Rattle.routing.specs.Network.{graphOf};
+ghost use Prim.Native.Nat.{_+_, _*_, _<_, _≤_};
+ghost use lib.ListN.{length};
+ghost use Rattle.routing.specs.Network.{graphOf, relationsOf};
 ghost use Rattle.routing.specs.Sound.{Sound};
-ghost use Rattle.routing.specs.Search.{searched};
-ghost use Rattle.routing.specs.Route.{costOfEnd};
-ghost use Rattle.transition.specs.Costs.{noRoutes, costOf, routeOf, entryAt, routesAt, RowFilled, RoutesHeld};
+ghost use Rattle.routing.specs.Index.{Indexed};
+ghost use Rattle.transition.specs.Costs.{noRoutes, entryAt, routesAt, RowFilled, RoutesHeld};
 
 // A table for 32 starts and 32 goals.
 pub fn no_routes() -> [f64; 1024]
@@ -20,59 +20,7 @@ pub fn no_routes() -> [f64; 1024]
     [infinity(); 1024]
 }
 
-// The entry of a route: its cost, or infinity.
-fn cost_of(route: Route) -> f64
-    ensures { λ r. ⌜ r ≡ costOf route ⌝ }
-{
-    match route {
-        Route::Cost(cost) => cost,
-        Route::Unreachable => infinity(),
-    }
-}
-
-fn route_of(cost: f64) -> Route
-    ensures { λ r. ⌜ r ≡ routeOf cost ⌝ }
-{
-    if cost < infinity() {
-        return Route::Cost(cost);
-    }
-    Route::Unreachable
-}
-
-// The routes from one node to each goal.
-fn distances_from(
-    lengths: &[f64],
-    from: &[u32],
-    to: &[u32],
-    from_side: &[u32],
-    to_side: &[u32],
-    forward: &[u32],
-    backward: &[u32],
-    start: usize,
-    goals: &[usize],
-    found: &mut [f64],
-)
-    requires { ⌜ Sound (graphOf (now lengths) (now from) (now to) (now «from_side») (now «to_side») (now forward) (now backward)) ⌝ }
-    requires { ⌜ start < 2 * length (now lengths) ⌝ }
-    requires { ⌜ (length (now goals) ≡ length (now found)) × (length (now found) ≤ 32) ⌝ }
-    ensures { λ _. ⌜ ((k : ℕ) → k < length (now (goals .entry)) → routeOf (getD (now (found .exit)) k nan) ≡ costOfEnd (searched (graphOf (now (lengths .entry)) (now (from .entry)) (now (to .entry)) (now («from_side» .entry)) (now («to_side» .entry)) (now (forward .entry)) (now (backward .entry))) start (getD (now (goals .entry)) k 0))) ⌝ }
-{
-    for k in 0..goals.len() {
-        found[k] = cost_of(distance_between(
-            lengths,
-            from,
-            to,
-            from_side,
-            to_side,
-            forward,
-            backward,
-            start,
-            goals[k],
-        ));
-    }
-}
-
-// The row that begins at entry `at`; a start that is no node of the network is passed over.
+// The row that begins at entry `at`, by one search; a start that is no node of the network is passed over.
 fn fill_row(
     lengths: &[f64],
     from: &[u32],
@@ -81,13 +29,16 @@ fn fill_row(
     to_side: &[u32],
     forward: &[u32],
     backward: &[u32],
+    heads: &[u16],
+    nexts: &[u16],
     start: usize,
     goals: &[usize],
     at: usize,
     found: &mut [f64],
 )
     requires { ⌜ Sound (graphOf (now lengths) (now from) (now to) (now «from_side») (now «to_side») (now forward) (now backward)) ⌝ }
-    requires { ⌜ (at + length (now goals) ≤ length (now found)) × (length (now goals) ≤ 32) ⌝ }
+    requires { ⌜ Indexed (length (now lengths)) (relationsOf (now from) (now to) (now «from_side») (now «to_side») (now forward) (now backward)) 0 (now heads) (now nexts) ⌝ }
+    requires { ⌜ at + length (now goals) ≤ length (now found) ⌝ }
     ensures { λ _. ⌜ RowFilled (graphOf (now (lengths .entry)) (now (from .entry)) (now (to .entry)) (now («from_side» .entry)) (now («to_side» .entry)) (now (forward .entry)) (now (backward .entry))) start (now (goals .entry)) at (now (found .entry)) (now (found .exit)) ⌝ }
 {
     if start < 2 * lengths.len() {
@@ -100,6 +51,8 @@ fn fill_row(
             to_side,
             forward,
             backward,
+            heads,
+            nexts,
             start,
             goals,
             &mut found[at..end],
@@ -116,12 +69,15 @@ pub fn fill_routes(
     to_side: &[u32],
     forward: &[u32],
     backward: &[u32],
+    heads: &[u16],
+    nexts: &[u16],
     starts: &[usize],
     goals: &[usize],
     found: &mut [f64],
 )
     requires { ⌜ Sound (graphOf (now lengths) (now from) (now to) (now «from_side») (now «to_side») (now forward) (now backward)) ⌝ }
-    requires { ⌜ (length (now starts) * length (now goals) ≤ length (now found)) × (length (now goals) ≤ 32) ⌝ }
+    requires { ⌜ Indexed (length (now lengths)) (relationsOf (now from) (now to) (now «from_side») (now «to_side») (now forward) (now backward)) 0 (now heads) (now nexts) ⌝ }
+    requires { ⌜ (length (now starts) * length (now goals) ≤ length (now found)) × (length (now starts) ≤ 32) ⌝ }
     ensures { λ _. ⌜ RoutesHeld (graphOf (now (lengths .entry)) (now (from .entry)) (now (to .entry)) (now («from_side» .entry)) (now («to_side» .entry)) (now (forward .entry)) (now (backward .entry))) (now (starts .entry)) (now (goals .entry)) (length (now (starts .entry))) (now (found .exit)) ⌝ }
 {
     for r in 0..starts.len() {
@@ -133,6 +89,8 @@ pub fn fill_routes(
             to_side,
             forward,
             backward,
+            heads,
+            nexts,
             starts[r],
             goals,
             r * goals.len(),

@@ -11,12 +11,12 @@ use Rattle.transition.proofs.costs.fill_routes.Tie as tie
 use Rattle.transition.proofs.Held.{row-fits, held-none, held-turn, held-done}
 
 abbrev Inv-loop : tie.InvT-loop
-Inv-loop lengths from to from-side to-side forward backward starts goals found₀ r₀ r-end found r = 
+Inv-loop lengths from to from-side to-side forward backward heads nexts starts goals found₀ r₀ r-end found r =
     let g = graphOf lengths from to from-side to-side forward backward in
     (r-end ≡ length starts) × (r ≤ r-end) × (length found ≡ length found₀) × RoutesHeld g starts goals r found
 
 abbrev μ-loop : tie.MeasureT-loop
-μ-loop lengths from to from-side to-side forward backward starts goals found₀ r₀ r-end found r = r-end - r
+μ-loop lengths from to from-side to-side forward backward heads nexts starts goals found₀ r₀ r-end found r = r-end - r
 
 loop-holds : tie.Need-loop-holds Inv-loop μ-loop
 loop-holds c = (refl, omega arith, refl, held-none _ _ _ _)
@@ -28,16 +28,17 @@ shared-slice-read-fill-row : tie.Need-shared-slice-read-fill-row Inv-loop μ-loo
 shared-slice-read-fill-row c = omega (arith, c .before .loop-test .taken, c .before .before .loop .inv .0)
 
 mul-fill-row-2 : tie.Need-mul-fill-row-2 Inv-loop μ-loop
-mul-fill-row-2 c = let start = c .before .before .before .before .before .before .before .before .before .before .before .before .before in
-    omega (arith, row-fits (length (start .args .goals .now)) (c .before .before .loop .r) (length (start .args .starts .now)) (length (start .args .found .now)) (omega (arith, c .before .loop-test .taken, c .before .before .loop .inv .0)) (start .pre .1 .0))
+mul-fill-row-2 c = let start = c .before .before .before .before .before .before .before .before .before .before .before .before .before .before .before in
+    omega (arith, row-fits (length (start .args .goals .now)) (c .before .before .loop .r) (length (start .args .starts .now)) (length (start .args .found .now)) (omega (arith, c .before .loop-test .taken, c .before .before .loop .inv .0)) (start .pre .1 .1 .0))
 
 fill-row-requires : tie.Need-fill-row-requires Inv-loop μ-loop
-fill-row-requires c κs = let start = c .before .before .before .before .before .before .before .before .before .before .before .before .before .before in
-    let fits = row-fits (length (start .args .goals .now)) (c .before .before .before .loop .r) (length (start .args .starts .now)) (length (start .args .found .now)) (omega (arith, c .before .before .loop-test .taken, c .before .before .before .loop .inv .0)) (start .pre .1 .0) in
-    (start .pre .0, (omega (arith, fits, c .before .before .before .loop .inv .2), start .pre .1 .1))
+fill-row-requires c κs = let start = c .before .before .before .before .before .before .before .before .before .before .before .before .before .before .before .before in
+    let fits = row-fits (length (start .args .goals .now)) (c .before .before .before .loop .r) (length (start .args .starts .now)) (length (start .args .found .now)) (omega (arith, c .before .before .loop-test .taken, c .before .before .before .loop .inv .0)) (start .pre .1 .1 .0) in
+    (start .pre .0, (start .pre .1 .0, omega (arith, fits, c .before .before .before .loop .inv .2)))
 
 add-r : tie.Need-add-r Inv-loop μ-loop
-add-r c = omega (arith, c .before .before .before .before .before .loop-test .taken, c .before .before .before .before .before .before .loop .inv .0)
+add-r c = let start = c .before .before .before .before .before .before .before .before .before .before .before .before .before .before .before .before .before .before .before in
+    omega (arith, c .before .before .before .before .before .loop-test .taken, c .before .before .before .before .before .before .loop .inv .0, start .pre .1 .1 .1)
 
 loop-less : tie.Need-loop-less Inv-loop μ-loop
 loop-less c = omega (arith, c .before .before .before .before .before .loop-test .taken)

@@ -26,17 +26,17 @@ part-distances-from-end : tie.Need-part-distances-from-end
 part-distances-from-end c = search needs
 
 distances-from-requires : tie.Need-distances-from-requires
-distances-from-requires c κs = let start = c .before .before .before .before .before .before .before .before .before .before .before in
-    let long = part-length (start .args .found .now) (start .args .at) (length (start .args .goals .now)) (start .pre .1 .0) in
-    (start .pre .0, (c .before .if1 .taken, (sym long, omega (arith, long, start .pre .1 .1))))
+distances-from-requires c κs = let start = c .before .before .before .before .before .before .before .before .before .before .before .before .before in
+    let long = part-length (start .args .found .now) (start .args .at) (length (start .args .goals .now)) (start .pre .1 .1) in
+    (start .pre .0, (start .pre .1 .0, (c .before .if1 .taken, omega (arith, long))))
 
 same-length : tie.Need-same-length
 same-length c = search needs
 
 returns : tie.Need-returns
-returns c = let start = c .before .before .before .before .before .before .before .before .before .before .before .before .before .before in
-    let long = part-length (start .args .found .now) (start .args .at) (length (start .args .goals .now)) (start .pre .1 .0) in
-    row-filled _ _ _ _ (start .args .found .now) (c .before .before .distances-from .last .1 .1 .1 .1 .1 .1 .1 .1 .1 .0) (start .pre .1 .0) (c .before .before .distances-from .kept .1 .1 .1 .1 .1 .1 .1 .1 .1 .0 ∙ long) (c .before .before .distances-from .ensures)
+returns c = let start = c .before .before .before .before .before .before .before .before .before .before .before .before .before .before .before .before in
+    let long = part-length (start .args .found .now) (start .args .at) (length (start .args .goals .now)) (start .pre .1 .1) in
+    row-filled _ _ _ _ (start .args .found .now) (c .before .before .distances-from .last .1 .1 .1 .1 .1 .1 .1 .1 .1 .1 .1 .0) (start .pre .1 .1) (c .before .before .distances-from .kept .1 .1 .1 .1 .1 .1 .1 .1 .1 .1 .1 .0 ∙ long) (c .before .before .distances-from .ensures)
 
 returns-2 : tie.Need-returns-2
 returns-2 c = row-passed _ _ _ _ _ (c .if1 .left)
