@@ -7,7 +7,7 @@ use Prim.Native.Nat.{ℕ, zero, suc, _+_, _-_, _*_, _/_, _<_, _≤_}
 use native.Mathlib.Nat.{not-suc-le-zero, eq-or-lt-of-le, mul-le-mul-right, suc-mul}
 use native.Mathlib.Omega.{arith}
 use lib.Dec.{T, eqb, ltb}
-use lib.ListN.{length, getD, set, take, drop, length-drop, List·getD-append}
+use lib.ListN.{length, getD, set, take, drop, length-drop, length-replicate, List·getD-append}
 use lib.Seq.{length-take-le, getD-take, getD-append-add, getD-set-same, getD-set-other}
 use lib.Ieee.{Float, nan, inf, lt}
 use borrow.Author.Tests.{lt-ltb}
@@ -22,7 +22,7 @@ use Rattle.routing.specs.declared.search.Pick.the-variants.{At, Nothing}
 use Rattle.routing.proofs.LeastPick.{picked-finite}
 use Rattle.transition.specs.declared.routes.Routes.{Routes}
 use Rattle.transition.specs.Routes.{routesBy}
-use Rattle.transition.specs.Costs.{costOf, routeOf, entryAt, routesAt, RowFilled, RoutesHeld}
+use Rattle.transition.specs.Costs.{noRoutes, costOf, routeOf, entryAt, routesAt, RowFilled, RoutesHeld}
 
 -- ---- an entry
 
@@ -85,6 +85,10 @@ row-fits n r s m l h =
     let rows : suc r * n ≤ s * n = mul-le-mul-right n l in
     let next : suc r * n ≡ r * n + n = suc-mul r n in
     omega (arith, rows, next)
+
+pub routes-many : {found : List Float} → found ≡ noRoutes → length found ≡ 1024
+unfolding noRoutes
+routes-many e = ap length e ∙ length-replicate 1024 (inf false)
 
 pub some-columns : (n i : ℕ) → 2 * i + 1 < n → 0 < n
 some-columns n i h = omega arith
