@@ -46,7 +46,7 @@ none-near near e i h =
 -- ---- offers
 
 module _ (net : Network) (settings : Settings) where
-  abbrev steps : Routes → StepScore
+  abbrev pub steps : Routes → StepScore
   steps routes = stepThrough (net .graph .lengths) (net .headings) (net .flags) settings routes
 
   unasked : (a b : Candidate) (d : Float) (routes : Routes) → neitherNear a b ≡ true → steps routes a b d ≡ transition net settings a b d

@@ -2,25 +2,27 @@
 use Prim.Native.Nat.{ℕ, _+_, _*_, _<_, _≤_}
 use native.Mathlib.Nat.{not-suc-le-zero, eq-or-lt-of-le, mul-le-mul}
 use native.Mathlib.Omega.{arith}
-use mathlib.Core.Path.{_≡_, refl, sym, subst, _∙_}
-use mathlib.Core.Bool.{Bool, true, false, cond, not, _&&_, _||_}
+use mathlib.Core.Path.{_≡_, refl, ap, subst, _∙_}
+use mathlib.Core.Bool.{Bool, true, false, not, cond}
 use mathlib.Core.List.{List}
 use mathlib.Core.Logic.{⊎-elim}
+use lib.Dec.{eqb}
 use lib.ListN.{length, getD, set, take, length-set}
 use lib.Seq.{length-take-le, getD-take, getD-set-same, getD-set-other}
 use lib.Ieee.{Float}
 use lib.Ieee.Scale.{finite}
 use borrow.Author.Tests.{eq-eqb, ne-eqb}
-use Rattle.lists.proofs.Loops.{clash}
+use Rattle.lists.specs.Loops.{any}
+use Rattle.lists.proofs.Loops.{clash, any-turn, any-stop, any-done}
 use Rattle.routing.specs.Network.{Graph, count}
 use Rattle.routing.specs.Walks.{node}
 use Rattle.routing.specs.Route.{route}
-use Rattle.journal.specs.Row.{Row, cellOf}
+use Rattle.journal.specs.Row.{Row, cellOf, scoreOf}
+use Rattle.journal.specs.declared.record.Candidate.{Candidate}
 use Rattle.transition.specs.Routes.{routesBy}
-use Rattle.transition.specs.declared.routes.Routes.{Routes}
 use Rattle.transition.specs.Costs.{routesAt, RoutesHeld}
 use Rattle.transition.proofs.Held.{routes-held}
-use Rattle.rows.specs.Sides.{putNodes, Nodes, anyNear, asksFrom, PairRoutes}
+use Rattle.rows.specs.Sides.{noNodes, putNodes, Nodes, anyNear, asksFrom, PairRoutes}
 
 -- ---- one candidate
 
@@ -31,16 +33,20 @@ module _ (nodes : List ℕ) (j element : ℕ) where
 
   put-before : (i : ℕ) → i < 2 * j → getD (putNodes nodes j element) i 0 ≡ getD nodes i 0
   unfolding putNodes
-  put-before i h = getD-set-other _ (2 * j + 1) i _ 0 (omega arith) ∙ getD-set-other nodes (2 * j) i _ 0 (omega arith)
+  put-before i h =
+      getD-set-other (set nodes (2 * j) (node element 0)) (2 * j + 1) i (node element 1) 0 (omega arith)
+      ∙ getD-set-other nodes (2 * j) i (node element 0) 0 (omega arith)
 
   module _ (h : 2 * j + 1 < length nodes) where
     put-side0 : getD (putNodes nodes j element) (2 * j) 0 ≡ node element 0
     unfolding putNodes
-    put-side0 = getD-set-other _ (2 * j + 1) (2 * j) _ 0 (omega arith) ∙ getD-set-same nodes (2 * j) _ 0 (omega arith)
+    put-side0 =
+        getD-set-other (set nodes (2 * j) (node element 0)) (2 * j + 1) (2 * j) (node element 1) 0 (omega arith)
+        ∙ getD-set-same nodes (2 * j) (node element 0) 0 (omega arith)
 
     put-side1 : getD (putNodes nodes j element) (2 * j + 1) 0 ≡ node element 1
     unfolding putNodes
-    put-side1 = getD-set-same (set nodes (2 * j) (node element 0)) (2 * j + 1) _ 0 (simp length-set h)
+    put-side1 = getD-set-same (set nodes (2 * j) (node element 0)) (2 * j + 1) (node element 1) 0 (simp length-set h)
 
 -- ---- one after the other
 
@@ -74,38 +80,79 @@ module _ (asks : ℕ → Bool) (element : ℕ → ℕ) where
   pub nodes-done : {n m : ℕ} {nodes : List ℕ} → Nodes n asks element nodes → n ≡ m → Nodes m asks element nodes
   nodes-done {nodes = nodes} held e = subst (λ (n : ℕ). Nodes n asks element nodes) e held
 
--- ---- from which candidates routes can matter
+-- ---- which candidates ask
 
-module _ (p : Row) (near : Bool) (j : ℕ) where
-  pub asks-infinite : finite (cellOf p j .score) ≡ false → false ≡ asksFrom p near j
-  unfolding asksFrom
-  asks-infinite e = rw e
+-- the nodes of a candidate that asks go in, and those of another do not
+module _ (asks : Bool) (nodes : List ℕ) (j : ℕ) {b : Bool} (is : b ≡ asks) where
+  pub start-put : {a c : Candidate} {nodes′ : List ℕ} → b ≡ true → a ≡ c → nodes′ ≡ putNodes nodes j (a .element) → nodes′ ≡ cond asks (putNodes nodes j (c .element)) nodes
+  start-put t m e = rw (← is, t, ← m) e
 
-  pub asks-own : finite (cellOf p j .score) ≡ true → cellOf p j .candidate .near ≡ 0 → near ≡ asksFrom p near j
-  unfolding asksFrom
-  asks-own e h = rw (e, eq-eqb _ 0 h)
+  pub start-passed : (nodes′ : List ℕ) → b ≡ false → nodes ≡ cond asks nodes′ nodes
+  start-passed nodes′ f = rw (← is, f)
 
-  pub asks-near : finite (cellOf p j .score) ≡ true → (cellOf p j .candidate .near ≡ 0 → ⊥) → true ≡ asksFrom p near j
+module _ (p : Row) (near : Bool) (j : ℕ) {s : Float} {b : Bool} (score : s ≡ scoreOf p j) (is : b ≡ finite s) where
+  pub asks-infinite : b ≡ false → false ≡ asksFrom p near j
   unfolding asksFrom
-  asks-near e h = rw (e, ne-eqb _ 0 h)
+  asks-infinite f = rw (← score, ← is, f)
+
+  module _ {a : Candidate} (candidate : a ≡ cellOf p j .candidate) (t : b ≡ true) where
+    pub asks-own : a .near ≡ 0 → near ≡ asksFrom p near j
+    unfolding asksFrom
+    asks-own h = rw (← score, ← is, t, ← candidate, eq-eqb (a .near) 0 h)
+
+    pub asks-near : (a .near ≡ 0 → ⊥) → true ≡ asksFrom p near j
+    unfolding asksFrom
+    asks-near h = rw (← score, ← is, t, ← candidate, ne-eqb (a .near) 0 h)
+
+-- ---- own candidates, one after the other, up to one that is near
+
+abbrev pub nearTo : List ℕ → ℕ → Bool
+nearTo near n = any n (λ i. not (eqb (getD near i 0) 0))
+
+module _ (near : List ℕ) (i : ℕ) where
+  pub near-turn : nearTo near i ≡ false → getD near i 0 ≡ 0 → nearTo near (i + 1) ≡ false
+  near-turn f e = any-turn i _ f (rw (eq-eqb (getD near i 0) 0 e))
+
+  pub near-found : i < length near → (getD near i 0 ≡ 0 → ⊥) → true ≡ anyNear near
+  unfolding anyNear
+  near-found h e = any-stop i (length near) _ h (rw (ne-eqb (getD near i 0) 0 e))
+
+  pub near-none : nearTo near i ≡ false → i ≡ length near → false ≡ anyNear near
+  unfolding anyNear
+  near-none f e = any-done i (length near) _ f e
 
 -- ---- the table
 
 pub table-fits : (m n : ℕ) → m ≤ 16 → n ≤ 16 → 2 * m * (2 * n) ≤ 1024
 table-fits m n h l =
-    let all : 2 * m * (2 * n) ≤ 32 * 32 = mul-le-mul (omega arith) (omega arith) in
+    let all : 2 * m * (2 * n) ≤ 32 * 32 = mul-le-mul {n₁ = 2 * m} {m₁ = 2 * n} {n₂ = 32} {m₂ = 32} (omega arith) (omega arith) in
     omega (arith, all)
 
-module _ (g : Graph) (p : Row) (before : ℕ) (elements near : List ℕ) {starts goals : List ℕ} {found : List Float}
-    (from : Nodes before (asksFrom p (anyNear near)) (λ j. cellOf p j .candidate .element) starts)
+pub nodes-many : {nodes : List ℕ} → nodes ≡ noNodes → length nodes ≡ 32
+unfolding noNodes
+nodes-many e = ap length e
+
+-- the nodes of m candidates of 16, and of n, with the table that they are lent for
+module _ (starts goals : List ℕ) (m n : ℕ) (long : length starts ≡ 32) (long′ : length goals ≡ 32) (few : m ≤ 16) (few′ : n ≤ 16) where
+  pub rows-many : length (take (2 * m) starts) ≡ 2 * m
+  rows-many = length-take-le (2 * m) starts (omega arith)
+
+  pub columns-many : length (take (2 * n) goals) ≡ 2 * n
+  columns-many = length-take-le (2 * n) goals (omega arith)
+
+  pub parts-fit : (room : ℕ) → 1024 ≤ room → (length (take (2 * m) starts) * length (take (2 * n) goals) ≤ room) × (length (take (2 * m) starts) ≤ 32)
+  parts-fit room h = (rw (rows-many, columns-many) (omega (arith, table-fits m n few few′)), omega (arith, rows-many))
+
+module _ (g : Graph) (p : Row) (before : ℕ) (elements near : List ℕ) {own : Bool} {starts goals : List ℕ} {found : List Float}
+    (is : own ≡ anyNear near)
+    (from : Nodes before (asksFrom p own) (λ j. cellOf p j .candidate .element) starts)
     (to : Nodes (length elements) (λ i. true) (λ i. getD elements i 0) goals)
     (known : (j : ℕ) → j < before → cellOf p j .candidate .element < count g) (known′ : (i : ℕ) → i < length elements → getD elements i 0 < count g)
-    (long : 2 * before ≤ length starts) (long′ : 2 * length elements ≤ length goals) where
+    (rows : length (take (2 * before) starts) ≡ 2 * before) (columns : length (take (2 * length elements) goals) ≡ 2 * length elements) where
   pub pairs-held : RoutesHeld g (take (2 * before) starts) (take (2 * length elements) goals) (length (take (2 * before) starts)) found → PairRoutes g p before elements near found
   pairs-held held = record {
-    routes = λ j i h l e.
-        let rows = length-take-le (2 * before) starts long in
-        let columns = length-take-le (2 * length elements) goals long′ in
+    routes = λ j i h l t.
+        let e : asksFrom p own j ≡ true = rw is t in
         subst (λ (n : ℕ). routesAt found n j i ≡ routesBy (λ side side′. route g (cellOf p j .candidate .element) side (getD elements i 0) side′)) columns
         (routes-held g _ _ (known j h) (known′ i l) held j i (omega (arith, rows)) (omega (arith, columns))
         (getD-take (2 * before) starts (2 * j) 0 (omega arith) ∙ from .side0 j h e)

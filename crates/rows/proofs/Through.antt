@@ -1,6 +1,6 @@
 -- Offers of one pair, by the case of the code. Assumes nothing.
 use Prim.Native.Nat.{ℕ, _+_, _*_, _<_, _≤_}
-use native.Mathlib.Nat.{mul-comm}
+use native.Mathlib.Nat.{mul-comm, le-mul-of-pos-right}
 use native.Mathlib.Omega.{arith}
 use mathlib.Core.Path.{_≡_, refl, _∙_}
 use mathlib.Core.Bool.{true, false}
@@ -30,3 +30,8 @@ pair-inside count before n i j h k e = omega (arith, row-below count j before i 
 -- and its routes are in the table
 pub pair-held : (count before n i j : ℕ) → i < count → j < before → 2 * before * (2 * count) ≤ n → (2 * j + 1) * (2 * count) + (2 * i + 1) < n
 pair-held count before n i j h k e = omega (arith, row-below (2 * count) (2 * j + 1) (2 * before) (2 * i + 1) (omega arith) (omega arith), e)
+
+pub columns-fit : (count before n : ℕ) → 0 < before → 2 * before * (2 * count) ≤ n → 2 * count ≤ n
+columns-fit count before n h e =
+    let some : 0 < 2 * before = omega arith in
+    omega (arith, le-mul-of-pos-right (2 * count) some, mul-comm (2 * count) (2 * before), e)

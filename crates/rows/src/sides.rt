@@ -10,7 +10,8 @@ ghost use mathlib.Core.Path.{_≡_};
 ghost use mathlib.Core.Bool.{true, cond};
 ghost use Prim.Native.Nat.{ℕ, _+_, _*_, _<_, _≤_};
 ghost use lib.ListN.{length, getD};
-ghost use Rattle.routing.specs.Network.{graphOf};
+ghost use Rattle.routing.specs.Network.{graphOf, relationsOf};
+ghost use Rattle.routing.specs.Index.{Indexed};
 ghost use Rattle.routing.specs.Sound.{Sound};
 ghost use Rattle.journal.specs.Row.{cellOf};
 ghost use Rattle.journal.specs.Record.{readRow};
@@ -92,7 +93,53 @@ fn goal_nodes(elements: &[u32], goals: &mut [usize])
     }
 }
 
-// The routes of all pairs, a predecessor's side after the other, into the table.
+// The routes of all pairs, a predecessor's side after the other, into the table; `heads` and `nexts` are the network's index.
+fn indexed_routes(
+    lengths: &[f64],
+    from: &[u32],
+    to: &[u32],
+    from_side: &[u32],
+    to_side: &[u32],
+    forward: &[u32],
+    backward: &[u32],
+    heads: &[u16],
+    nexts: &[u16],
+    words: &[u32],
+    before: usize,
+    elements: &[u32],
+    near: &[u32],
+    found: &mut [f64],
+)
+    requires { ⌜ Sound (graphOf (now lengths) (now from) (now to) (now «from_side») (now «to_side») (now forward) (now backward)) ⌝ }
+    requires { ⌜ Indexed (length (now lengths)) (relationsOf (now from) (now to) (now «from_side») (now «to_side») (now forward) (now backward)) 0 (now heads) (now nexts) ⌝ }
+    requires { ⌜ RecordKnown (length (now lengths)) (now words) before ⌝ }
+    requires { ⌜ ((i : ℕ) → i < length (now elements) → getD (now elements) i 0 < length (now lengths)) ⌝ }
+    requires { ⌜ (before ≤ 16) × (length (now elements) ≤ 16) × (1024 ≤ length (now found)) ⌝ }
+    ensures { λ _. ⌜ PairRoutes (graphOf (now (lengths .entry)) (now (from .entry)) (now (to .entry)) (now («from_side» .entry)) (now («to_side» .entry)) (now (forward .entry)) (now (backward .entry))) (readRow (now (words .entry))) before (now (elements .entry)) (now (near .entry)) (now (found .exit)) ⌝ }
+{
+    let mut starts = no_nodes();
+    let mut goals = no_nodes();
+    start_nodes(words, before, any_near(near), &mut starts);
+    goal_nodes(elements, &mut goals);
+    let m = 2 * before;
+    let n = 2 * elements.len();
+    fill_routes(
+        lengths,
+        from,
+        to,
+        from_side,
+        to_side,
+        forward,
+        backward,
+        heads,
+        nexts,
+        &starts[..m],
+        &goals[..n],
+        found,
+    );
+}
+
+// The same over a network that was not indexed yet.
 pub fn pair_routes(
     lengths: &[f64],
     from: &[u32],
@@ -126,13 +173,7 @@ pub fn pair_routes(
         &mut heads,
         &mut nexts,
     );
-    let mut starts = no_nodes();
-    let mut goals = no_nodes();
-    start_nodes(words, before, any_near(near), &mut starts);
-    goal_nodes(elements, &mut goals);
-    let m = 2 * before;
-    let n = 2 * elements.len();
-    fill_routes(
+    indexed_routes(
         lengths,
         from,
         to,
@@ -142,8 +183,10 @@ pub fn pair_routes(
         backward,
         &heads,
         &nexts,
-        &starts[..m],
-        &goals[..n],
+        words,
+        before,
+        elements,
+        near,
         found,
     );
 }

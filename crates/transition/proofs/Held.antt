@@ -1,14 +1,15 @@
 -- Routes in one table: row after row is filled. Assumes nothing.
 use mathlib.Core.Path.{_≡_, refl, sym, ap, subst, _∙_}
+use mathlib.Core.Bool.{false}
 use mathlib.Core.List.{List, _++_}
 use mathlib.Core.Logic.{⊎-elim}
 use Prim.Native.Nat.{ℕ, suc, _+_, _-_, _*_, _<_, _≤_}
 use native.Mathlib.Nat.{not-suc-le-zero, eq-or-lt-of-le, mul-le-mul-right, suc-mul}
 use native.Mathlib.Omega.{arith}
 use lib.Dec.{ltb}
-use lib.ListN.{length, getD, take, drop, length-drop, List·getD-append}
+use lib.ListN.{length, getD, take, drop, length-drop, length-replicate, List·getD-append}
 use lib.Seq.{length-take-le, getD-take, getD-append-add}
-use lib.Ieee.{Float, nan}
+use lib.Ieee.{Float, nan, inf}
 use borrow.Author.Tests.{lt-ltb}
 use Rattle.routing.specs.Network.{Graph, count}
 use Rattle.routing.specs.Walks.{node}
@@ -17,7 +18,7 @@ use Rattle.routing.specs.Route.{knownSide, costOfEnd, route}
 use Rattle.routing.specs.Goals.{routeOf}
 use Rattle.transition.specs.declared.routes.Routes.{Routes}
 use Rattle.transition.specs.Routes.{routesBy}
-use Rattle.transition.specs.Costs.{entryAt, routesAt, RowFilled, RoutesHeld}
+use Rattle.transition.specs.Costs.{noRoutes, entryAt, routesAt, RowFilled, RoutesHeld}
 
 -- ---- rows
 
@@ -32,6 +33,10 @@ row-fits n r s m l h =
     let rows : suc r * n ≤ s * n = mul-le-mul-right n l in
     let next : suc r * n ≡ r * n + n = suc-mul r n in
     omega (arith, rows, next)
+
+pub routes-many : {found : List Float} → found ≡ noRoutes → length found ≡ 1024
+unfolding noRoutes
+routes-many e = ap length e ∙ length-replicate 1024 (inf false)
 
 pub some-columns : (n i : ℕ) → 2 * i + 1 < n → 0 < n
 some-columns n i h = omega arith
