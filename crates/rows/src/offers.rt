@@ -78,7 +78,17 @@ fn offer_of(
 {
     let a = candidate_of(words, j);
     let previous = score_of(words, j);
-    offer(lengths, headings, flags, a, previous, b, routes, distance, settings)
+    offer(
+        lengths,
+        headings,
+        flags,
+        a,
+        previous,
+        b,
+        routes,
+        distance,
+        settings,
+    )
 }
 
 // The best of the offers of all predecessor candidates to own candidate i, which is b, the first of equals. The routes are those of a table.
@@ -109,7 +119,17 @@ pub fn best_offer(
     for j in 0..before {
         let routes = routes_at(found, 2 * count, j, i);
         let distance = distance_of(distances, count, j, i);
-        let next = offer_of(lengths, headings, flags, words, j, b, routes, distance, settings);
+        let next = offer_of(
+            lengths,
+            headings,
+            flags,
+            words,
+            j,
+            b,
+            routes,
+            distance,
+            settings,
+        );
         best = better_offer(best, j as u32, next);
     }
     best

@@ -1,12 +1,12 @@
 -- Routes in one table: an entry stands for the route that it was made of, and row after row is filled. Assumes nothing.
-use mathlib.Core.Path.{_≡_, refl, sym, ap, subst, _∙_}
+use mathlib.Core.Path.{_≡_, refl, ap, subst, _∙_}
 use mathlib.Core.Bool.{Bool, true, false, cond}
 use mathlib.Core.List.{List, _++_}
 use mathlib.Core.Logic.{⊎-elim}
 use Prim.Native.Nat.{ℕ, zero, suc, _+_, _-_, _*_, _/_, _<_, _≤_}
 use native.Mathlib.Nat.{not-suc-le-zero, eq-or-lt-of-le, mul-le-mul-right, suc-mul}
 use native.Mathlib.Omega.{arith}
-use lib.Dec.{T, eqb, ltb}
+use lib.Dec.{T, eqb}
 use lib.ListN.{length, getD, set, take, drop, length-drop, length-replicate, List·getD-append}
 use lib.Seq.{length-take-le, getD-take, getD-append-add, getD-set-same, getD-set-other}
 use lib.Ieee.{Float, nan, inf, lt}
@@ -20,7 +20,6 @@ use Rattle.routing.specs.declared.route.Route.the-variants.{Cost, Unreachable}
 use Rattle.routing.specs.declared.search.Pick.{Pick}
 use Rattle.routing.specs.declared.search.Pick.the-variants.{At, Nothing}
 use Rattle.routing.proofs.LeastPick.{picked-finite}
-use Rattle.transition.specs.declared.routes.Routes.{Routes}
 use Rattle.transition.specs.Routes.{routesBy}
 use Rattle.transition.specs.Costs.{noRoutes, costOf, routeOf, entryAt, routesAt, RowFilled, RoutesHeld}
 
@@ -116,8 +115,8 @@ module _ (g : Graph) (start : ℕ) (goals : List ℕ) (at : ℕ) where
       record {
         entry = λ l k h.
             let there : getD (take at found ++ rest) (at + k) nan ≡ getD part k nan =
-                subst (λ (m : ℕ). getD (take at found ++ rest) (m + k) nan ≡ getD part k nan) front
-                (getD-append-add (take at found) rest k nan ∙ List·getD-append part last nan k (omega arith)) in
+            subst (λ (m : ℕ). getD (take at found ++ rest) (m + k) nan ≡ getD part k nan) front
+            (getD-append-add (take at found) rest k nan ∙ List·getD-append part last nan k (omega arith)) in
             rw there (held k h);
         earlier = λ i h. List·getD-append (take at found) rest nan i (omega arith) ∙ getD-take at found i nan h;
       }
@@ -129,10 +128,12 @@ module _ (g : Graph) (starts goals : List ℕ) where
   pub held-turn : {n : ℕ} {found₀ found : List Float} → RoutesHeld g starts goals n found₀ → RowFilled g (getD starts n 0) goals (n * length goals) found₀ found
       → RoutesHeld g starts goals (n + 1) found
   unfolding entryAt
-  held-turn {n} held row = record { entry = λ r k h l m.
-      ⊎-elim (λ (same : r ≡ n). rw same (row .entry (rw same at m) k l))
-      (λ (less : r < n). ap routeOf (row .earlier (r * length goals + k) (row-below (length goals) r n k l less)) ∙ held .entry r k less l m)
-      (eq-or-lt-of-le (omega arith)) }
+  held-turn {n} held row = record {
+    entry = λ r k h l m.
+        ⊎-elim (λ (same : r ≡ n). rw same (row .entry (rw same at m) k l))
+        (λ (less : r < n). ap routeOf (row .earlier (r * length goals + k) (row-below (length goals) r n k l less)) ∙ held .entry r k less l m)
+        (eq-or-lt-of-le (omega arith));
+  }
 
   pub held-done : {n m : ℕ} {found : List Float} → RoutesHeld g starts goals n found → n ≡ m → RoutesHeld g starts goals m found
   held-done {found = found} held e = subst (λ (n : ℕ). RoutesHeld g starts goals n found) e held

@@ -113,7 +113,16 @@ pub fn compute_log_transition(
     ensures { λ r. ⌜ r ≡ transition (networkOf (now (lengths .entry)) (now (headings .entry)) (now (flags .entry)) (now (from .entry)) (now (to .entry)) (now («from_side» .entry)) (now («to_side» .entry)) (now (forward .entry)) (now (backward .entry))) settings a b distance ⌝ }
 {
     if !asks_routes(a, b) {
-        return step_through(lengths, headings, flags, a, b, unreachable(), distance, settings);
+        return step_through(
+            lengths,
+            headings,
+            flags,
+            a,
+            b,
+            unreachable(),
+            distance,
+            settings,
+        );
     }
     let routes = routes_between(
         lengths,

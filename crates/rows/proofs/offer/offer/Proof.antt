@@ -29,7 +29,7 @@ enum-told c = search needs
 
 returns-2 : tie.Need-returns-2
 unfolding floored
-returns-2 c = 
+returns-2 c =
     rw (c .floored-log .ensures)
     (through-possible _ _ _ (sym (c .before .before .before .before .before .before .is-finite .ensures) ∙ not-false _ (c .before .before .before .before .before .if1 .left)) _ (sym (c .before .before .before .before .step-through .ensures) ∙ c .before .before .step .given .1))
 

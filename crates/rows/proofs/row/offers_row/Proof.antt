@@ -20,7 +20,7 @@ use Rattle.rows.proofs.Nodes.{table-fits}
 use Rattle.rows.proofs.ByTable.{steps, offer-same}
 
 abbrev Inv-loop : tie.InvT-loop
-Inv-loop lengths headings flags from to from-side to-side forward backward words before elements intrinsics near raw-logs distances parents₀ scores₀ settings found possible₀ i₀ i-end parents scores possible i = 
+Inv-loop lengths headings flags from to from-side to-side forward backward words before elements intrinsics near raw-logs distances parents₀ scores₀ settings found possible₀ i₀ i-end parents scores possible i =
     (i-end ≡ length elements)
     × (i ≤ i-end)
     × Offered i (transition (networkOf lengths headings flags from to from-side to-side forward backward) settings) (readRow words) (fixGiven (givenOf elements intrinsics near raw-logs distances)) before possible parents₀ scores₀ parents scores

@@ -11,7 +11,7 @@ use Rattle.rows.proofs.sides.goal_nodes.Tie as tie
 use Rattle.rows.proofs.Nodes.{nodes-none, nodes-turn, nodes-done}
 
 abbrev Inv-loop : tie.InvT-loop
-Inv-loop elements goals₀ i₀ i-end goals i = 
+Inv-loop elements goals₀ i₀ i-end goals i =
     (i-end ≡ length elements) × (i ≤ i-end) × (length goals ≡ length goals₀) × Nodes i (λ k. true) (λ k. getD elements k 0) goals
 
 abbrev μ-loop : tie.MeasureT-loop

@@ -15,7 +15,7 @@ use Rattle.transition.proofs.costs.distances_from.Tie as tie
 use Rattle.transition.proofs.Held.{entry-stands, row-turn}
 
 abbrev Inv-loop : tie.InvT-loop
-Inv-loop lengths from to from-side to-side forward backward start goals found₀ k₀ k-end found k = 
+Inv-loop lengths from to from-side to-side forward backward start goals found₀ k₀ k-end found k =
     let g = graphOf lengths from to from-side to-side forward backward in
     (k-end ≡ length goals)
     × (k ≤ k-end)

@@ -11,7 +11,7 @@ use Rattle.transition.proofs.costs.fill_routes.Tie as tie
 use Rattle.transition.proofs.Held.{row-fits, held-none, held-turn, held-done}
 
 abbrev Inv-loop : tie.InvT-loop
-Inv-loop lengths from to from-side to-side forward backward starts goals found₀ r₀ r-end found r = 
+Inv-loop lengths from to from-side to-side forward backward starts goals found₀ r₀ r-end found r =
     let g = graphOf lengths from to from-side to-side forward backward in
     (r-end ≡ length starts) × (r ≤ r-end) × (length found ≡ length found₀) × RoutesHeld g starts goals r found
 
