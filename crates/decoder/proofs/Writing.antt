@@ -165,6 +165,8 @@ module _ (net : Network) (settings : Settings) (s : List ℕ) (g : Given) (lates
     pub fix-scorable : (parents : List ℕ) (scores : List Float) → 16 ≤ length parents → 16 ≤ length scores → Scorable net g words before parents scores
     fix-scorable parents scores p q = record {
       accepted = f .accepted;
+      few = even .few;
+      few-before = rw b-is (before-few s (f .rows) latest 1 (f .reads) (f .last));
       intrinsics = even .intrinsics;
       near = even .near;
       rawLogs = even .rawLogs;

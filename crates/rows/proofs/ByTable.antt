@@ -8,18 +8,15 @@ use lib.Dec.{eqb}
 use lib.ListN.{length, getD}
 use lib.Ieee.{Float}
 use lib.Ieee.Scale.{finite}
-use Rattle.lists.specs.Loops.{any}
 use Rattle.lists.proofs.Loops.{two, clash, any-stop}
 use Rattle.routing.specs.Network.{Network}
-use Rattle.routing.specs.Route.{route}
-use Rattle.journal.specs.Row.{Fix, Row, Given, cellOf, scoreOf, candidateOf, distanceOf, candidateGiven, fixGiven}
+use Rattle.journal.specs.Row.{Row, Given, cellOf, scoreOf, candidateGiven, fixGiven}
 use Rattle.journal.specs.declared.record.Candidate.{Candidate}
 use Rattle.transition.specs.declared.step.Settings.{Settings}
 use Rattle.transition.specs.declared.step.Step.{Step}
 use Rattle.transition.specs.declared.routes.Routes.{Routes}
-use Rattle.transition.specs.Routes.{routesBy}
 use Rattle.transition.specs.Costs.{routesAt}
-use Rattle.transition.specs.Step.{neitherNear, asksRoutes, stepThrough, transition}
+use Rattle.transition.specs.Step.{neitherNear, stepThrough, transition}
 use Rattle.transition.proofs.Cases.{asks-interior, through-unasked, through-network}
 use Rattle.rows.specs.Row.{StepScore, floored, through, offer}
 use Rattle.rows.specs.Sides.{anyNear, asksFrom, PairRoutes}

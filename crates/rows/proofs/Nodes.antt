@@ -128,20 +128,15 @@ table-fits m n h l =
     let all : 2 * m * (2 * n) ≤ 32 * 32 = mul-le-mul {n₁ = 2 * m} {m₁ = 2 * n} {n₂ = 32} {m₂ = 32} (omega arith) (omega arith) in
     omega (arith, all)
 
-pub nodes-many : {nodes : List ℕ} → nodes ≡ noNodes → length nodes ≡ 32
+-- the nodes of m candidates of 16, as they are lent
+pub prefix-many : (nodes : List ℕ) (m : ℕ) {empty : List ℕ} → empty ≡ noNodes → length nodes ≡ length empty → m ≤ 16 → length (take (2 * m) nodes) ≡ 2 * m
 unfolding noNodes
-nodes-many e = ap length e
+prefix-many nodes m e l few =
+    let long : length nodes ≡ 32 = l ∙ ap length e in
+    length-take-le (2 * m) nodes (omega arith)
 
--- the nodes of m candidates of 16, and of n, with the table that they are lent for
-module _ (starts goals : List ℕ) (m n : ℕ) (long : length starts ≡ 32) (long′ : length goals ≡ 32) (few : m ≤ 16) (few′ : n ≤ 16) where
-  pub rows-many : length (take (2 * m) starts) ≡ 2 * m
-  rows-many = length-take-le (2 * m) starts (omega arith)
-
-  pub columns-many : length (take (2 * n) goals) ≡ 2 * n
-  columns-many = length-take-le (2 * n) goals (omega arith)
-
-  pub parts-fit : (room : ℕ) → 1024 ≤ room → (length (take (2 * m) starts) * length (take (2 * n) goals) ≤ room) × (length (take (2 * m) starts) ≤ 32)
-  parts-fit room h = (rw (rows-many, columns-many) (omega (arith, table-fits m n few few′)), omega (arith, rows-many))
+pub prefixes-fit : (m n room : ℕ) {rows columns : ℕ} → rows ≡ 2 * m → columns ≡ 2 * n → m ≤ 16 → n ≤ 16 → 1024 ≤ room → (rows * columns ≤ room) × (rows ≤ 32)
+prefixes-fit m n room p q few few′ h = (rw (p, q) (omega (arith, table-fits m n few few′)), omega arith)
 
 module _ (g : Graph) (p : Row) (before : ℕ) (elements near : List ℕ) {own : Bool} {starts goals : List ℕ} {found : List Float}
     (is : own ≡ anyNear near)

@@ -1,12 +1,11 @@
 -- Routes in one table: row after row is filled. Assumes nothing.
-use mathlib.Core.Path.{_≡_, refl, sym, ap, subst, _∙_}
+use mathlib.Core.Path.{_≡_, refl, ap, subst, _∙_}
 use mathlib.Core.Bool.{false}
 use mathlib.Core.List.{List, _++_}
 use mathlib.Core.Logic.{⊎-elim}
 use Prim.Native.Nat.{ℕ, suc, _+_, _-_, _*_, _<_, _≤_}
 use native.Mathlib.Nat.{not-suc-le-zero, eq-or-lt-of-le, mul-le-mul-right, suc-mul}
 use native.Mathlib.Omega.{arith}
-use lib.Dec.{ltb}
 use lib.ListN.{length, getD, take, drop, length-drop, length-replicate, List·getD-append}
 use lib.Seq.{length-take-le, getD-take, getD-append-add}
 use lib.Ieee.{Float, nan, inf}
@@ -16,7 +15,6 @@ use Rattle.routing.specs.Walks.{node}
 use Rattle.routing.specs.Search.{searched}
 use Rattle.routing.specs.Route.{knownSide, costOfEnd, route}
 use Rattle.routing.specs.Goals.{routeOf}
-use Rattle.transition.specs.declared.routes.Routes.{Routes}
 use Rattle.transition.specs.Routes.{routesBy}
 use Rattle.transition.specs.Costs.{noRoutes, entryAt, routesAt, RowFilled, RoutesHeld}
 

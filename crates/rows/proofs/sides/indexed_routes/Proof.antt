@@ -1,10 +1,10 @@
 -- `rows::sides::indexed_routes` meets its contract. Assumes nothing.
 use borrow.Author.Needs.{needs}
-use mathlib.Core.Path.{_≡_, sym, _∙_}
+use mathlib.Core.Path.{sym}
 use lib.ListN.{length}
 use Rattle.rows.proofs.sides.indexed_routes.Statement.{statement}
 use Rattle.rows.proofs.sides.indexed_routes.Tie as tie
-use Rattle.rows.proofs.Nodes.{nodes-many, rows-many, columns-many, parts-fit, pairs-held}
+use Rattle.rows.proofs.Nodes.{pairs-held, prefix-many, prefixes-fit}
 
 no-nodes-requires : tie.Need-no-nodes-requires
 no-nodes-requires c κs = search needs
@@ -38,48 +38,29 @@ array-share-prefix-starts c = search needs
 
 slice-aggregate-fill-routes : tie.Need-slice-aggregate-fill-routes
 slice-aggregate-fill-routes c = let start = c .before .before .before .before .before .before .before .before .before .before .before .before .before .before .before .before .before .before .before .before .before .before .before in
-    let starts = c .before .before .before .before .before .start-nodes .last .1 .1 .1 .0 in
-    let goals = c .before .before .goal-nodes .last .1 .0 in
-    let long : length starts ≡ 32 = c .before .before .before .before .before .start-nodes .kept .1 .1 .1 .0 ∙ nodes-many (c .before .before .before .before .before .before .before .before .before .no-nodes .ensures) in
-    let long′ : length goals ≡ 32 = c .before .before .goal-nodes .kept .1 .0 ∙ nodes-many (c .before .before .before .before .before .before .before .before .no-nodes2 .ensures) in
-    let n = length (start .args .elements .now) in
-    sym (rows-many starts goals (start .args .before) n long long′ (start .pre .1 .1 .1 .1 .0) (start .pre .1 .1 .1 .1 .1))
+    sym (prefix-many (c .before .before .before .before .before .start-nodes .last .1 .1 .1 .0) (start .args .before) (c .before .before .before .before .before .before .before .before .before .no-nodes .ensures) (c .before .before .before .before .before .start-nodes .kept .1 .1 .1 .0) (start .pre .1 .1 .1 .1 .0))
 
 array-share-prefix-goals : tie.Need-array-share-prefix-goals
 array-share-prefix-goals c = search needs
 
 slice-aggregate-fill-routes-2 : tie.Need-slice-aggregate-fill-routes-2
 slice-aggregate-fill-routes-2 c = let start = c .before .before .before .before .before .before .before .before .before .before .before .before .before .before .before .before .before .before .before .before .before .before .before .before in
-    let starts = c .before .before .before .before .before .before .start-nodes .last .1 .1 .1 .0 in
-    let goals = c .before .before .before .goal-nodes .last .1 .0 in
-    let long : length starts ≡ 32 = c .before .before .before .before .before .before .start-nodes .kept .1 .1 .1 .0 ∙ nodes-many (c .before .before .before .before .before .before .before .before .before .before .no-nodes .ensures) in
-    let long′ : length goals ≡ 32 = c .before .before .before .goal-nodes .kept .1 .0 ∙ nodes-many (c .before .before .before .before .before .before .before .before .before .no-nodes2 .ensures) in
-    let n = length (start .args .elements .now) in
-    sym (columns-many starts goals (start .args .before) n long long′ (start .pre .1 .1 .1 .1 .0) (start .pre .1 .1 .1 .1 .1))
+    sym (prefix-many (c .before .before .before .goal-nodes .last .1 .0) (length (start .args .elements .now)) (c .before .before .before .before .before .before .before .before .before .no-nodes2 .ensures) (c .before .before .before .goal-nodes .kept .1 .0) (start .pre .1 .1 .1 .1 .1))
 
 fill-routes-requires : tie.Need-fill-routes-requires
 fill-routes-requires c κs = let start = c .before .before .before .before .before .before .before .before .before .before .before .before .before .before .before .before .before .before .before .before .before .before .before .before .before in
-    let starts = c .before .before .before .before .before .before .before .start-nodes .last .1 .1 .1 .0 in
-    let goals = c .before .before .before .before .goal-nodes .last .1 .0 in
-    let long : length starts ≡ 32 = c .before .before .before .before .before .before .before .start-nodes .kept .1 .1 .1 .0 ∙ nodes-many (c .before .before .before .before .before .before .before .before .before .before .before .no-nodes .ensures) in
-    let long′ : length goals ≡ 32 = c .before .before .before .before .goal-nodes .kept .1 .0 ∙ nodes-many (c .before .before .before .before .before .before .before .before .before .before .no-nodes2 .ensures) in
-    let n = length (start .args .elements .now) in
-    (start .pre .0, (start .pre .1 .0, parts-fit starts goals (start .args .before) n long long′ (start .pre .1 .1 .1 .1 .0) (start .pre .1 .1 .1 .1 .1) _ (start .pre .1 .1 .1 .1 .2)))
+    let rows = prefix-many (c .before .before .before .before .before .before .before .start-nodes .last .1 .1 .1 .0) (start .args .before) (c .before .before .before .before .before .before .before .before .before .before .before .no-nodes .ensures) (c .before .before .before .before .before .before .before .start-nodes .kept .1 .1 .1 .0) (start .pre .1 .1 .1 .1 .0) in
+    let columns = prefix-many (c .before .before .before .before .goal-nodes .last .1 .0) (length (start .args .elements .now)) (c .before .before .before .before .before .before .before .before .before .before .no-nodes2 .ensures) (c .before .before .before .before .goal-nodes .kept .1 .0) (start .pre .1 .1 .1 .1 .1) in
+    (start .pre .0, (start .pre .1 .0, prefixes-fit (start .args .before) (length (start .args .elements .now)) _ rows columns (start .pre .1 .1 .1 .1 .0) (start .pre .1 .1 .1 .1 .1) (start .pre .1 .1 .1 .1 .2)))
 
 same-length : tie.Need-same-length
 same-length c = search needs
 
 returns : tie.Need-returns
 returns c = let start = c .before .before .before .before .before .before .before .before .before .before .before .before .before .before .before .before .before .before .before .before .before .before .before .before .before .before .before .before in
-    let starts = c .before .before .before .before .before .before .before .before .before .before .start-nodes .last .1 .1 .1 .0 in
-    let goals = c .before .before .before .before .before .before .before .goal-nodes .last .1 .0 in
-    let long : length starts ≡ 32 = c .before .before .before .before .before .before .before .before .before .before .start-nodes .kept .1 .1 .1 .0 ∙ nodes-many (c .before .before .before .before .before .before .before .before .before .before .before .before .before .before .no-nodes .ensures) in
-    let long′ : length goals ≡ 32 = c .before .before .before .before .before .before .before .goal-nodes .kept .1 .0 ∙ nodes-many (c .before .before .before .before .before .before .before .before .before .before .before .before .before .no-nodes2 .ensures) in
-    let n = length (start .args .elements .now) in
-    pairs-held _ _ _ _ _ (c .before .before .before .before .before .before .before .before .before .before .before .before .any-near .ensures) (c .before .before .before .before .before .before .before .before .before .before .start-nodes .ensures) (c .before .before .before .before .before .before .before .goal-nodes .ensures) (start .pre .1 .1 .0 .element) (start .pre .1 .1 .1 .0)
-    (rows-many starts goals (start .args .before) n long long′ (start .pre .1 .1 .1 .1 .0) (start .pre .1 .1 .1 .1 .1))
-    (columns-many starts goals (start .args .before) n long long′ (start .pre .1 .1 .1 .1 .0) (start .pre .1 .1 .1 .1 .1))
-    (c .before .before .fill-routes .ensures)
+    let rows = prefix-many (c .before .before .before .before .before .before .before .before .before .before .start-nodes .last .1 .1 .1 .0) (start .args .before) (c .before .before .before .before .before .before .before .before .before .before .before .before .before .before .no-nodes .ensures) (c .before .before .before .before .before .before .before .before .before .before .start-nodes .kept .1 .1 .1 .0) (start .pre .1 .1 .1 .1 .0) in
+    let columns = prefix-many (c .before .before .before .before .before .before .before .goal-nodes .last .1 .0) (length (start .args .elements .now)) (c .before .before .before .before .before .before .before .before .before .before .before .before .before .no-nodes2 .ensures) (c .before .before .before .before .before .before .before .goal-nodes .kept .1 .0) (start .pre .1 .1 .1 .1 .1) in
+    pairs-held _ _ _ _ _ (c .before .before .before .before .before .before .before .before .before .before .before .before .any-near .ensures) (c .before .before .before .before .before .before .before .before .before .before .start-nodes .ensures) (c .before .before .before .before .before .before .before .goal-nodes .ensures) (start .pre .1 .1 .0 .element) (start .pre .1 .1 .1 .0) rows columns (c .before .before .fill-routes .ensures)
 
 pub indexed-routes-spec : {M : Type 1} → statement M
 indexed-routes-spec =
