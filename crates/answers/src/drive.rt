@@ -1,5 +1,6 @@
 // Opening, feeding and striking, and the used words.
 use crate::host::BACKWARD;
+use crate::host::Cuts;
 use crate::host::DISTANCES;
 use crate::host::ELEMENTS;
 use crate::host::FORWARD;
@@ -23,9 +24,10 @@ use crate::network::lengths_of;
 use crate::network::relations_of;
 use crate::parts::lend_numbers;
 use crate::parts::wide;
+use crate::print::Output;
+use crate::print::print_bytes;
 use crate::print::print_header;
 use crate::print::print_journal_word;
-use crate::print::print_line;
 use crate::print::print_refusal;
 use decoder::feed::feed;
 use journal::call::Answer;
@@ -43,14 +45,17 @@ pub const CANDIDATES: usize = 20;
 
 pub const PAIRS: usize = 400;
 
-fn print_done(out: &mut [u8], h: Host, name: &[u8], answer: Answer) -> Host {
+fn print_done(out: &mut Output, h: Host, name: &[u8], answer: Answer) -> Host {
     match answer {
-        Answer::Done => with_out(h, print_line(out, h.out, name, b" ok")),
+        Answer::Done => {
+            let named = print_bytes(out, h.out, name);
+            with_out(h, print_bytes(out, named, b" ok\n"))
+        }
         Answer::Refused(k) => with_out(h, print_refusal(out, h.out, name, k)),
     }
 }
 
-pub fn answer_open(h: Host, journal: &mut [u32], out: &mut [u8]) -> Host {
+pub fn answer_open(h: Host, journal: &mut [u32], out: &mut Output) -> Host {
     let answer = open(journal);
     print_done(out, h, b"open", answer)
 }
@@ -62,7 +67,7 @@ fn fill_words(journal: &mut [u32]) {
 }
 
 // A journal of so many words, each FFFFFFFF, then opened.
-pub fn answer_journal(text: &[u8], h: Host, journal: &mut [u32], out: &mut [u8]) -> Host {
+pub fn answer_journal(text: &[u8], h: Host, journal: &mut [u32], out: &mut Output) -> Host {
     let n = take_count(text, h.cursor, 262144);
     let c = n.cursor;
     let mut r = with_cursor(h, c);
@@ -75,7 +80,7 @@ pub fn answer_journal(text: &[u8], h: Host, journal: &mut [u32], out: &mut [u8])
     answer_open(r, lend_numbers(journal, words), out)
 }
 
-pub fn answer_strike(text: &[u8], h: Host, journal: &mut [u32], out: &mut [u8]) -> Host {
+pub fn answer_strike(text: &[u8], h: Host, journal: &mut [u32], out: &mut Output) -> Host {
     let n = take_number(text, h.cursor);
     let c = n.cursor;
     let r = with_cursor(h, c);
@@ -86,13 +91,15 @@ pub fn answer_strike(text: &[u8], h: Host, journal: &mut [u32], out: &mut [u8]) 
     print_done(out, r, b"strike", answer)
 }
 
-// A fix that was read is fed, each of its slices as far as its cut allows.
+// A fix of n candidates and m distances is fed, each of its slices as far as its cut allows.
 fn feed_fix(
     h: Host,
     floats: &[f64],
     numbers: &[u32],
     journal: &mut [u32],
-    cuts: &[u32],
+    cuts: &Cuts,
+    n: usize,
+    m: usize,
     elements: &[u32],
     intrinsics: &[f64],
     near: &[u32],
@@ -111,11 +118,11 @@ fn feed_fix(
         relations_of(h, numbers, cuts, BACKWARD),
         settings_of(h),
         journal,
-        first_numbers(elements, cut(cuts, ELEMENTS, elements.len())),
-        first_floats(intrinsics, cut(cuts, INTRINSICS, intrinsics.len())),
-        first_numbers(near, cut(cuts, NEAR, near.len())),
-        first_floats(raw_logs, cut(cuts, RAW_LOGS, raw_logs.len())),
-        first_floats(distances, cut(cuts, DISTANCES, distances.len())),
+        first_numbers(elements, cut(cuts, ELEMENTS, n)),
+        first_floats(intrinsics, cut(cuts, INTRINSICS, n)),
+        first_numbers(near, cut(cuts, NEAR, n)),
+        first_floats(raw_logs, cut(cuts, RAW_LOGS, n)),
+        first_floats(distances, cut(cuts, DISTANCES, m)),
     )
 }
 
@@ -125,13 +132,11 @@ pub fn answer_feed(
     floats: &[f64],
     numbers: &[u32],
     journal: &mut [u32],
-    cuts: &mut [u32],
-    out: &mut [u8],
+    cuts: &mut Cuts,
+    out: &mut Output,
 ) -> Host {
     let count = take_count(text, h.cursor, 20);
     let number = take_count(text, count.cursor, 400);
-    let n = wide(count.value);
-    let m = wide(number.value);
     let mut elements = [0u32; CANDIDATES];
     let mut intrinsics = [0.0; CANDIDATES];
     let mut near = [0u32; CANDIDATES];
@@ -157,11 +162,13 @@ pub fn answer_feed(
         numbers,
         journal,
         cuts,
-        first_numbers(&elements, n),
-        first_floats(&intrinsics, n),
-        first_numbers(&near, n),
-        first_floats(&raw_logs, n),
-        first_floats(&distances, m),
+        wide(count.value),
+        wide(number.value),
+        &elements,
+        &intrinsics,
+        &near,
+        &raw_logs,
+        &distances,
     );
     release(cuts, LENGTHS, DISTANCES + 1);
     print_done(out, r, b"feed", answer)
@@ -183,7 +190,7 @@ fn used_words(journal: &[u32]) -> usize {
     used
 }
 
-fn print_words(out: &mut [u8], start: usize, words: &[u32]) -> usize {
+fn print_words(out: &mut Output, start: usize, words: &[u32]) -> usize {
     let mut at = start;
     for k in 0..words.len() {
         at = print_journal_word(out, at, words[k]);
@@ -191,7 +198,7 @@ fn print_words(out: &mut [u8], start: usize, words: &[u32]) -> usize {
     at
 }
 
-pub fn answer_words(h: Host, journal: &[u32], out: &mut [u8]) -> Host {
+pub fn answer_words(h: Host, journal: &[u32], out: &mut Output) -> Host {
     let n = used_words(journal);
     let start = print_header(out, h.out, b"words", n);
     let at = print_words(out, start, first_numbers(journal, n));

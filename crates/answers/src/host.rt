@@ -41,6 +41,9 @@ pub const DECISIONS: usize = 15;
 
 pub const SLICES: usize = 16;
 
+// How many entries of each slice the next call gets.
+pub type Cuts = [u32; SLICES];
+
 // The cut of a slice that is lent whole.
 pub const WHOLE: u32 = 4294967295;
 
@@ -127,19 +130,25 @@ pub fn slice_number(slice: Slice) -> usize {
 }
 
 // How many of n entries of a slice the next call gets.
-pub fn cut(cuts: &[u32], slice: usize, n: usize) -> usize
+pub fn cut(cuts: &Cuts, slice: usize, n: usize) -> usize
     ensures { λ r. ⌜ r ≤ n ⌝ }
 {
-    if slice < cuts.len() {
+    if slice < SLICES {
         return least(wide(cuts[slice]), n);
     }
     n
 }
 
 // A call has taken the slices from one number up to another: they are whole again.
-pub fn release(cuts: &mut [u32], first: usize, end: usize) {
-    let n = least(end, cuts.len());
+pub fn release(cuts: &mut Cuts, first: usize, end: usize) {
+    let n = least(end, SLICES);
     for k in first..n {
         cuts[k] = WHOLE;
     }
+}
+
+// The same of a call that takes the network and answers a list.
+pub fn release_asked(cuts: &mut Cuts) {
+    release(cuts, LENGTHS, BACKWARD + 1);
+    release(cuts, ANSWER, ANSWER + 1);
 }

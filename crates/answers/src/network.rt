@@ -1,5 +1,5 @@
 // The network that is held: lengths and headings in one slice of floats, flags and the relations' fields in one of numbers, each in a part of its own.
-use crate::host::BACKWARD;
+use crate::host::Cuts;
 use crate::host::FLAGS;
 use crate::host::FORWARD;
 use crate::host::FROM;
@@ -34,34 +34,51 @@ pub const FLOATS: usize = 5500;
 
 pub const NUMBERS: usize = 26300;
 
+pub type NetworkFloats = [f64; FLOATS];
+
+pub type NetworkNumbers = [u32; NUMBERS];
+
+// Where the fields of the relations start, behind the flags.
+const FROM_START: usize = 1100;
+
+const TO_START: usize = 5300;
+
+const FROM_SIDE_START: usize = 9500;
+
+const TO_SIDE_START: usize = 13700;
+
+const FORWARD_START: usize = 17900;
+
+const BACKWARD_START: usize = 22100;
+
 // The lengths that the next call gets.
-pub fn lengths_of<'a>(h: Host, floats: &'a [f64], cuts: &[u32]) -> &'a [f64] {
+pub fn lengths_of<'a>(h: Host, floats: &'a [f64], cuts: &Cuts) -> &'a [f64] {
     first_floats(floats, cut(cuts, LENGTHS, h.elements))
 }
 
 // The headings, four an element.
-pub fn headings_of<'a>(h: Host, floats: &'a [f64], cuts: &[u32]) -> &'a [f64] {
+pub fn headings_of<'a>(h: Host, floats: &'a [f64], cuts: &Cuts) -> &'a [f64] {
     let n = 4 * least(h.elements, MOST_ELEMENTS);
     floats_at(floats, MOST_ELEMENTS, cut(cuts, HEADINGS, n))
 }
 
-pub fn flags_of<'a>(h: Host, numbers: &'a [u32], cuts: &[u32]) -> &'a [u32] {
+pub fn flags_of<'a>(h: Host, numbers: &'a [u32], cuts: &Cuts) -> &'a [u32] {
     first_numbers(numbers, cut(cuts, FLAGS, h.elements))
 }
 
 // Where a field of the relations starts, by the number of its slice.
 fn field_start(slice: usize) -> usize {
     match slice {
-        FROM => 1100,
-        TO => 5300,
-        FROM_SIDE => 9500,
-        TO_SIDE => 13700,
-        FORWARD => 17900,
-        _ => 22100,
+        FROM => FROM_START,
+        TO => TO_START,
+        FROM_SIDE => FROM_SIDE_START,
+        TO_SIDE => TO_SIDE_START,
+        FORWARD => FORWARD_START,
+        _ => BACKWARD_START,
     }
 }
 
-pub fn relations_of<'a>(h: Host, numbers: &'a [u32], cuts: &[u32], slice: usize) -> &'a [u32] {
+pub fn relations_of<'a>(h: Host, numbers: &'a [u32], cuts: &Cuts, slice: usize) -> &'a [u32] {
     numbers_at(numbers, field_start(slice), cut(cuts, slice, h.relations))
 }
 
@@ -112,12 +129,12 @@ fn take_relations(text: &[u8], c: Cursor, n: u32, numbers: &mut [u32]) -> Cursor
         &mut forward,
         &mut backward,
     );
-    store_numbers(numbers, field_start(FROM), &from);
-    store_numbers(numbers, field_start(TO), &to);
-    store_numbers(numbers, field_start(FROM_SIDE), &from_side);
-    store_numbers(numbers, field_start(TO_SIDE), &to_side);
-    store_numbers(numbers, field_start(FORWARD), &forward);
-    store_numbers(numbers, field_start(BACKWARD), &backward);
+    store_numbers(numbers, FROM_START, &from);
+    store_numbers(numbers, TO_START, &to);
+    store_numbers(numbers, FROM_SIDE_START, &from_side);
+    store_numbers(numbers, TO_SIDE_START, &to_side);
+    store_numbers(numbers, FORWARD_START, &forward);
+    store_numbers(numbers, BACKWARD_START, &backward);
     end
 }
 

@@ -7,17 +7,18 @@ use crate::fill::floats_kept;
 use crate::fill::words_kept;
 use crate::host::ANSWER;
 use crate::host::BACKWARD;
+use crate::host::Cuts;
 use crate::host::DISTANCES;
 use crate::host::FORWARD;
 use crate::host::FROM;
 use crate::host::FROM_SIDE;
 use crate::host::Host;
-use crate::host::LENGTHS;
 use crate::host::TO;
 use crate::host::TO_SIDE;
 use crate::host::answered;
 use crate::host::cut;
 use crate::host::release;
+use crate::host::release_asked;
 use crate::host::settings_of;
 use crate::host::with_cursor;
 use crate::network::flags_of;
@@ -29,12 +30,12 @@ use crate::parts::least;
 use crate::parts::lend_floats;
 use crate::parts::lend_numbers;
 use crate::parts::number_at;
+use crate::print::Output;
 use crate::print::end_line;
 use crate::print::print_bytes;
 use crate::print::print_count;
 use crate::print::print_float;
 use crate::print::print_header;
-use crate::print::print_line;
 use crate::print::print_number;
 use crate::print::print_refusal;
 use closing::close::Closing;
@@ -51,14 +52,14 @@ use text::list::first_numbers;
 // More than the pairs of the longest path: a row of it takes 10 words of the journal or more.
 const STATES: usize = 32768;
 
-fn print_pair(out: &mut [u8], start: usize, row: u32, candidate: u32) -> usize {
+fn print_pair(out: &mut Output, start: usize, row: u32, candidate: u32) -> usize {
     let named = print_bytes(out, start, b"at");
     let told = print_number(out, named, row);
     let at = print_number(out, told, candidate);
     end_line(out, at)
 }
 
-fn print_pairs(out: &mut [u8], start: usize, rows: &[u32], candidates: &[u32]) -> usize {
+fn print_pairs(out: &mut Output, start: usize, rows: &[u32], candidates: &[u32]) -> usize {
     let n = least(rows.len(), candidates.len());
     let mut at = start;
     for k in 0..n {
@@ -68,14 +69,14 @@ fn print_pairs(out: &mut [u8], start: usize, rows: &[u32], candidates: &[u32]) -
 }
 
 fn print_closing(
-    out: &mut [u8],
+    out: &mut Output,
     start: usize,
     answer: Closing,
     rows: &[u32],
     candidates: &[u32],
 ) -> usize {
     match answer {
-        Closing::Nothing => print_line(out, start, b"close", b" none"),
+        Closing::Nothing => print_bytes(out, start, b"close none\n"),
         Closing::Refused(k) => print_refusal(out, start, b"close", k),
         Closing::Path(score, n) => {
             let named = print_bytes(out, start, b"close");
@@ -95,7 +96,7 @@ fn path_length(answer: Closing) -> usize {
     }
 }
 
-pub fn answer_close(h: Host, journal: &[u32], cuts: &mut [u32], out: &mut [u8]) -> Host {
+pub fn answer_close(h: Host, journal: &[u32], cuts: &mut Cuts, out: &mut Output) -> Host {
     let mut rows = [FILL; STATES];
     let mut candidates = [FILL; STATES];
     let room = cut(cuts, ANSWER, STATES);
@@ -118,7 +119,7 @@ pub fn answer_close(h: Host, journal: &[u32], cuts: &mut [u32], out: &mut [u8]) 
 }
 
 fn print_candidate(
-    out: &mut [u8],
+    out: &mut Output,
     start: usize,
     element: u32,
     intrinsic: f64,
@@ -138,7 +139,7 @@ fn print_candidate(
 }
 
 fn print_candidates(
-    out: &mut [u8],
+    out: &mut Output,
     start: usize,
     n: usize,
     elements: &[u32],
@@ -164,13 +165,13 @@ fn print_candidates(
     at
 }
 
-fn print_distance(out: &mut [u8], start: usize, distance: f64) -> usize {
+fn print_distance(out: &mut Output, start: usize, distance: f64) -> usize {
     let named = print_bytes(out, start, b"distance");
     let at = print_float(out, named, distance);
     end_line(out, at)
 }
 
-fn print_distances(out: &mut [u8], start: usize, distances: &[f64]) -> usize {
+fn print_distances(out: &mut Output, start: usize, distances: &[f64]) -> usize {
     let mut at = start;
     for k in 0..distances.len() {
         at = print_distance(out, at, distances[k]);
@@ -179,7 +180,7 @@ fn print_distances(out: &mut [u8], start: usize, distances: &[f64]) -> usize {
 }
 
 // The first line of a row, or its refusal.
-fn print_row(out: &mut [u8], start: usize, answer: RowRead) -> usize {
+fn print_row(out: &mut Output, start: usize, answer: RowRead) -> usize {
     match answer {
         RowRead::Refused(k) => print_refusal(out, start, b"row", k),
         RowRead::Row(count, before) => {
@@ -224,7 +225,7 @@ fn candidates_kept(
 
 fn tell_row(
     h: Host,
-    out: &mut [u8],
+    out: &mut Output,
     answer: RowRead,
     elements: &[u32],
     intrinsics: &[f64],
@@ -253,7 +254,7 @@ fn tell_row(
     answered(h, at, kept && floats_kept(distances, m))
 }
 
-fn ask_row(row: u32, h: Host, journal: &[u32], cuts: &[u32], out: &mut [u8]) -> Host {
+fn ask_row(row: u32, h: Host, journal: &[u32], cuts: &Cuts, out: &mut Output) -> Host {
     let fill = fill_float();
     let mut elements = [FILL; CANDIDATES];
     let mut intrinsics = [fill; CANDIDATES];
@@ -288,7 +289,13 @@ fn ask_row(row: u32, h: Host, journal: &[u32], cuts: &[u32], out: &mut [u8]) -> 
     )
 }
 
-pub fn answer_row(text: &[u8], h: Host, journal: &[u32], cuts: &mut [u32], out: &mut [u8]) -> Host {
+pub fn answer_row(
+    text: &[u8],
+    h: Host,
+    journal: &[u32],
+    cuts: &mut Cuts,
+    out: &mut Output,
+) -> Host {
     let row = take_number(text, h.cursor);
     let c = row.cursor;
     let r = with_cursor(h, c);
@@ -301,7 +308,7 @@ pub fn answer_row(text: &[u8], h: Host, journal: &[u32], cuts: &mut [u32], out: 
 }
 
 fn print_step(
-    out: &mut [u8],
+    out: &mut Output,
     start: usize,
     predecessor_row: u32,
     predecessor_candidate: u32,
@@ -319,7 +326,7 @@ fn print_step(
 }
 
 fn print_steps(
-    out: &mut [u8],
+    out: &mut Output,
     start: usize,
     n: usize,
     predecessor_rows: &[u32],
@@ -344,7 +351,7 @@ fn print_steps(
 }
 
 // The first line of a listing, or its refusal.
-fn print_listing(out: &mut [u8], start: usize, answer: StepsListed) -> usize {
+fn print_listing(out: &mut Output, start: usize, answer: StepsListed) -> usize {
     match answer {
         StepsListed::Refused(k) => print_refusal(out, start, b"steps", k),
         StepsListed::Listed(n) => print_header(out, start, b"steps", n),
@@ -373,7 +380,7 @@ fn steps_kept(
 
 fn tell_steps(
     h: Host,
-    out: &mut [u8],
+    out: &mut Output,
     answer: StepsListed,
     predecessor_rows: &[u32],
     predecessor_candidates: &[u32],
@@ -410,8 +417,8 @@ fn ask_steps(
     floats: &[f64],
     numbers: &[u32],
     journal: &[u32],
-    cuts: &[u32],
-    out: &mut [u8],
+    cuts: &Cuts,
+    out: &mut Output,
 ) -> Host {
     let fill = fill_float();
     let mut predecessor_rows = [FILL; PAIRS];
@@ -457,8 +464,8 @@ pub fn answer_steps(
     floats: &[f64],
     numbers: &[u32],
     journal: &[u32],
-    cuts: &mut [u32],
-    out: &mut [u8],
+    cuts: &mut Cuts,
+    out: &mut Output,
 ) -> Host {
     let row = take_number(text, h.cursor);
     let c = row.cursor;
@@ -467,7 +474,6 @@ pub fn answer_steps(
         return r;
     }
     let s = ask_steps(row.value, r, floats, numbers, journal, cuts, out);
-    release(cuts, LENGTHS, BACKWARD + 1);
-    release(cuts, ANSWER, ANSWER + 1);
+    release_asked(cuts);
     s
 }

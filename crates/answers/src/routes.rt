@@ -3,6 +3,7 @@ use crate::fill::FILL;
 use crate::fill::words_kept;
 use crate::host::ANSWER;
 use crate::host::BACKWARD;
+use crate::host::Cuts;
 use crate::host::FORWARD;
 use crate::host::FROM;
 use crate::host::FROM_SIDE;
@@ -13,6 +14,7 @@ use crate::host::TO_SIDE;
 use crate::host::answered;
 use crate::host::cut;
 use crate::host::release;
+use crate::host::release_asked;
 use crate::host::with_cursor;
 use crate::host::with_out;
 use crate::network::MOST_ELEMENTS;
@@ -22,12 +24,12 @@ use crate::network::lengths_of;
 use crate::network::relations_of;
 use crate::parts::least;
 use crate::parts::lend_numbers;
+use crate::print::Output;
 use crate::print::end_line;
 use crate::print::print_bytes;
 use crate::print::print_count;
 use crate::print::print_digits;
 use crate::print::print_float;
-use crate::print::print_line;
 use crate::print::print_number;
 use crate::print::print_refusal;
 use routing::route::Listing;
@@ -46,7 +48,7 @@ struct Side {
     side: u32,
 }
 
-fn print_states(out: &mut [u8], start: usize, states: &[u32]) -> usize {
+fn print_states(out: &mut Output, start: usize, states: &[u32]) -> usize {
     if states.len() == 0 {
         return end_line(out, start);
     }
@@ -57,9 +59,9 @@ fn print_states(out: &mut [u8], start: usize, states: &[u32]) -> usize {
     end_line(out, at)
 }
 
-fn print_route(out: &mut [u8], start: usize, answer: Listing, states: &[u32]) -> usize {
+fn print_route(out: &mut Output, start: usize, answer: Listing, states: &[u32]) -> usize {
     match answer {
-        Listing::NoRoute => print_line(out, start, b"route", b" none"),
+        Listing::NoRoute => print_bytes(out, start, b"route none\n"),
         Listing::Refused(k) => print_refusal(out, start, b"route", k),
         Listing::Listed(cost, n) => {
             let named = print_bytes(out, start, b"route");
@@ -79,18 +81,16 @@ fn state_count(answer: Listing) -> usize {
     }
 }
 
-fn ask_route(
+fn find_route(
     start: Side,
     goal: Side,
     h: Host,
     floats: &[f64],
     numbers: &[u32],
-    cuts: &mut [u32],
-    out: &mut [u8],
-) -> Host {
-    let mut states = [FILL; STATES];
-    let room = cut(cuts, ANSWER, STATES);
-    let answer = shortest_path_route(
+    cuts: &Cuts,
+    states: &mut [u32],
+) -> Listing {
+    shortest_path_route(
         lengths_of(h, floats, cuts),
         headings_of(h, floats, cuts),
         flags_of(h, numbers, cuts),
@@ -104,10 +104,31 @@ fn ask_route(
         start.side,
         goal.element,
         goal.side,
+        states,
+    )
+}
+
+fn ask_route(
+    start: Side,
+    goal: Side,
+    h: Host,
+    floats: &[f64],
+    numbers: &[u32],
+    cuts: &mut Cuts,
+    out: &mut Output,
+) -> Host {
+    let mut states = [FILL; STATES];
+    let room = cut(cuts, ANSWER, STATES);
+    let answer = find_route(
+        start,
+        goal,
+        h,
+        floats,
+        numbers,
+        cuts,
         lend_numbers(&mut states, room),
     );
-    release(cuts, LENGTHS, BACKWARD + 1);
-    release(cuts, ANSWER, ANSWER + 1);
+    release_asked(cuts);
     let n = state_count(answer);
     let at = print_route(out, h.out, answer, first_numbers(&states, n));
     answered(h, at, words_kept(&states, n))
@@ -118,8 +139,8 @@ pub fn answer_route(
     h: Host,
     floats: &[f64],
     numbers: &[u32],
-    cuts: &mut [u32],
-    out: &mut [u8],
+    cuts: &mut Cuts,
+    out: &mut Output,
 ) -> Host {
     let a = take_number(text, h.cursor);
     let b = take_number(text, a.cursor);
@@ -155,8 +176,8 @@ fn routes_from(
     h: Host,
     floats: &[f64],
     numbers: &[u32],
-    cuts: &mut [u32],
-    out: &mut [u8],
+    cuts: &mut Cuts,
+    out: &mut Output,
 ) -> Host {
     let mut r = h;
     for goal in 0..nodes {
@@ -170,8 +191,8 @@ pub fn answer_routes(
     h: Host,
     floats: &[f64],
     numbers: &[u32],
-    cuts: &mut [u32],
-    out: &mut [u8],
+    cuts: &mut Cuts,
+    out: &mut Output,
 ) -> Host {
     let nodes = 2 * least(h.elements, MOST_ELEMENTS) as u32;
     let mut r = h;
@@ -181,31 +202,24 @@ pub fn answer_routes(
     r
 }
 
-fn print_triple(out: &mut [u8], start: usize, answer: Consistency) -> usize {
+fn print_triple(out: &mut Output, start: usize, answer: Consistency) -> usize {
     match answer {
-        Consistency::Consistent => print_line(out, start, b"triple", b" yes"),
-        Consistency::Inconsistent => print_line(out, start, b"triple", b" no"),
+        Consistency::Consistent => print_bytes(out, start, b"triple yes\n"),
+        Consistency::Inconsistent => print_bytes(out, start, b"triple no\n"),
         Consistency::Refused(k) => print_refusal(out, start, b"triple", k),
     }
 }
 
-pub fn answer_triple(
-    text: &[u8],
+fn ask_triple(
+    a: u32,
+    b: u32,
+    c: u32,
     h: Host,
     floats: &[f64],
     numbers: &[u32],
-    cuts: &mut [u32],
-    out: &mut [u8],
-) -> Host {
-    let a = take_number(text, h.cursor);
-    let b = take_number(text, a.cursor);
-    let c = take_number(text, b.cursor);
-    let end = c.cursor;
-    let r = with_cursor(h, end);
-    if end.bad {
-        return r;
-    }
-    let answer = triple_is_consistent(
+    cuts: &Cuts,
+) -> Consistency {
+    triple_is_consistent(
         lengths_of(h, floats, cuts),
         headings_of(h, floats, cuts),
         flags_of(h, numbers, cuts),
@@ -215,11 +229,29 @@ pub fn answer_triple(
         relations_of(h, numbers, cuts, TO_SIDE),
         relations_of(h, numbers, cuts, FORWARD),
         relations_of(h, numbers, cuts, BACKWARD),
-        a.value,
-        b.value,
-        c.value,
-    );
+        a,
+        b,
+        c,
+    )
+}
+
+pub fn answer_triple(
+    text: &[u8],
+    h: Host,
+    floats: &[f64],
+    numbers: &[u32],
+    cuts: &mut Cuts,
+    out: &mut Output,
+) -> Host {
+    let a = take_number(text, h.cursor);
+    let b = take_number(text, a.cursor);
+    let c = take_number(text, b.cursor);
+    let end = c.cursor;
+    let r = with_cursor(h, end);
+    if end.bad {
+        return r;
+    }
+    let answer = ask_triple(a.value, b.value, c.value, h, floats, numbers, cuts);
     release(cuts, LENGTHS, BACKWARD + 1);
-    let at = print_triple(out, h.out, answer);
-    with_out(r, at)
+    with_out(r, print_triple(out, h.out, answer))
 }

@@ -1,5 +1,7 @@
 // The lines that change what the program holds and answer nothing: settings, poke and short.
+use crate::host::Cuts;
 use crate::host::Host;
+use crate::host::SLICES;
 use crate::host::slice_number;
 use crate::host::with_cursor;
 use crate::parts::put_number;
@@ -46,14 +48,14 @@ pub fn poke(text: &[u8], h: Host, journal: &mut [u32]) -> Host {
 }
 
 // How many entries of a slice the next call gets.
-pub fn read_short(text: &[u8], h: Host, cuts: &mut [u32]) -> Host {
+pub fn read_short(text: &[u8], h: Host, cuts: &mut Cuts) -> Host {
     let name = take_slice(text, h.cursor);
     let slice = name.value;
     let number = slice_number(slice);
-    if cuts.len() <= number {
+    if SLICES <= number {
         return with_cursor(h, refuse(name.cursor));
     }
     let n = take_number(text, name.cursor);
-    put_number(cuts, number, n.value);
+    cuts[number] = n.value;
     with_cursor(h, n.cursor)
 }

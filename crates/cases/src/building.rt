@@ -1,24 +1,27 @@
 // Building the list of segments.
+use crate::held::HeldIntrinsics;
+use crate::held::HeldNumbers;
 use crate::held::fill_segment;
 use crate::held::hold;
 use crate::held::same_segment;
 use answers::host::ANSWER;
 use answers::host::BACKWARD;
+use answers::host::Cuts;
 use answers::host::FORWARD;
 use answers::host::FROM;
 use answers::host::FROM_SIDE;
 use answers::host::Host;
-use answers::host::LENGTHS;
 use answers::host::TO;
 use answers::host::TO_SIDE;
 use answers::host::answered;
 use answers::host::cut;
-use answers::host::release;
+use answers::host::release_asked;
 use answers::network::flags_of;
 use answers::network::headings_of;
 use answers::network::lengths_of;
 use answers::network::relations_of;
 use answers::parts::least;
+use answers::print::Output;
 use answers::print::end_line;
 use answers::print::print_bytes;
 use answers::print::print_float;
@@ -31,7 +34,7 @@ use segments::array::build_array;
 use segments::build::Built;
 use segments::segment::Segment;
 
-fn print_segment(out: &mut [u8], start: usize, segment: Segment) -> usize {
+fn print_segment(out: &mut Output, start: usize, segment: Segment) -> usize {
     let named = print_bytes(out, start, b"segment");
     let told = print_number(out, named, segment.element);
     let begun = print_float(out, told, segment.start_intrinsic);
@@ -42,7 +45,7 @@ fn print_segment(out: &mut [u8], start: usize, segment: Segment) -> usize {
 }
 
 pub fn print_list(
-    out: &mut [u8],
+    out: &mut Output,
     start: usize,
     list: [Segment; ARRAY_SEGMENTS],
     n: usize,
@@ -55,7 +58,7 @@ pub fn print_list(
     at
 }
 
-fn print_built(out: &mut [u8], start: usize, list: [Segment; ARRAY_SEGMENTS], n: usize) -> usize {
+fn print_built(out: &mut Output, start: usize, list: [Segment; ARRAY_SEGMENTS], n: usize) -> usize {
     let next = print_header(out, start, b"segments", n);
     print_list(out, next, list, n)
 }
@@ -75,15 +78,9 @@ fn built_kept(list: [Segment; ARRAY_SEGMENTS], n: usize) -> bool {
     true
 }
 
-fn build(
-    h: Host,
-    floats: &[f64],
-    numbers: &[u32],
-    journal: &[u32],
-    cuts: &mut [u32],
-) -> BuiltArray {
+fn build(h: Host, floats: &[f64], numbers: &[u32], journal: &[u32], cuts: &Cuts) -> BuiltArray {
     let room = cut(cuts, ANSWER, ARRAY_SEGMENTS);
-    let built = build_array(
+    build_array(
         lengths_of(h, floats, cuts),
         headings_of(h, floats, cuts),
         flags_of(h, numbers, cuts),
@@ -96,10 +93,7 @@ fn build(
         journal,
         fill_list(),
         room,
-    );
-    release(cuts, LENGTHS, BACKWARD + 1);
-    release(cuts, ANSWER, ANSWER + 1);
-    built
+    )
 }
 
 pub fn answer_segments(
@@ -107,12 +101,13 @@ pub fn answer_segments(
     floats: &[f64],
     numbers: &[u32],
     journal: &[u32],
-    cuts: &mut [u32],
-    held_numbers: &mut [u32],
-    held_intrinsics: &mut [f64],
-    out: &mut [u8],
+    cuts: &mut Cuts,
+    held_numbers: &mut HeldNumbers,
+    held_intrinsics: &mut HeldIntrinsics,
+    out: &mut Output,
 ) -> Host {
     let built = build(h, floats, numbers, journal, cuts);
+    release_asked(cuts);
     let answer = built.answer;
     let list = built.list;
     match answer {

@@ -1,11 +1,14 @@
 // Collapsing a list of segments: that of the text, or the one that is held.
 use crate::building::print_list;
+use crate::held::HeldIntrinsics;
+use crate::held::HeldNumbers;
 use crate::held::held_list;
 use crate::held::hold;
 use crate::held::list_of;
 use crate::held::same_segment;
 use answers::fill::FILL;
 use answers::fill::words_kept;
+use answers::host::Cuts;
 use answers::host::DECISIONS;
 use answers::host::Host;
 use answers::host::answered;
@@ -15,6 +18,7 @@ use answers::host::with_cursor;
 use answers::parts::least;
 use answers::parts::numbers_at;
 use answers::parts::wide;
+use answers::print::Output;
 use answers::print::end_line;
 use answers::print::print_bytes;
 use answers::print::print_count;
@@ -84,7 +88,7 @@ fn list_kept(
     true
 }
 
-fn print_removed(out: &mut [u8], start: usize, elements: &[u32]) -> usize {
+fn print_removed(out: &mut Output, start: usize, elements: &[u32]) -> usize {
     let mut at = start;
     for k in 0..elements.len() {
         at = print_number(out, at, elements[k]);
@@ -93,7 +97,7 @@ fn print_removed(out: &mut [u8], start: usize, elements: &[u32]) -> usize {
 }
 
 // The decision at the head of the words.
-fn print_decision(out: &mut [u8], start: usize, words: &[u32]) -> usize {
+fn print_decision(out: &mut Output, start: usize, words: &[u32]) -> usize {
     if words.len() < DECISION {
         return start;
     }
@@ -105,7 +109,7 @@ fn print_decision(out: &mut [u8], start: usize, words: &[u32]) -> usize {
     end_line(out, at)
 }
 
-fn print_decisions(out: &mut [u8], start: usize, words: &[u32], n: usize) -> usize {
+fn print_decisions(out: &mut Output, start: usize, words: &[u32], n: usize) -> usize {
     let m = least(n, ARRAY_SEGMENTS);
     let mut at = start;
     for k in 0..m {
@@ -115,7 +119,7 @@ fn print_decisions(out: &mut [u8], start: usize, words: &[u32], n: usize) -> usi
 }
 
 // How many segments are left, and how many decisions were made.
-fn print_counts(out: &mut [u8], start: usize, count: usize, number: usize) -> usize {
+fn print_counts(out: &mut Output, start: usize, count: usize, number: usize) -> usize {
     let named = print_bytes(out, start, b"collapse");
     let counted = print_count(out, named, count);
     let numbered = print_count(out, counted, number);
@@ -123,7 +127,7 @@ fn print_counts(out: &mut [u8], start: usize, count: usize, number: usize) -> us
 }
 
 fn print_collapsed(
-    out: &mut [u8],
+    out: &mut Output,
     start: usize,
     left: [Segment; ARRAY_SEGMENTS],
     count: usize,
@@ -146,9 +150,9 @@ fn collapse(
     n: usize,
     room: usize,
     h: Host,
-    held_numbers: &mut [u32],
-    held_intrinsics: &mut [f64],
-    out: &mut [u8],
+    held_numbers: &mut HeldNumbers,
+    held_intrinsics: &mut HeldIntrinsics,
+    out: &mut Output,
 ) -> Host {
     let done = collapse_array(list, [FILL; ARRAY_WORDS], n, room);
     let answer = done.answer;
@@ -177,9 +181,9 @@ fn collapse(
 fn collapse_held(
     room: usize,
     h: Host,
-    held_numbers: &mut [u32],
-    held_intrinsics: &mut [f64],
-    out: &mut [u8],
+    held_numbers: &mut HeldNumbers,
+    held_intrinsics: &mut HeldIntrinsics,
+    out: &mut Output,
 ) -> Host {
     let list = held_list(h.held, held_numbers, held_intrinsics);
     collapse(list, h.held, room, h, held_numbers, held_intrinsics, out)
@@ -189,9 +193,9 @@ fn collapse_given(
     text: &[u8],
     room: usize,
     h: Host,
-    held_numbers: &mut [u32],
-    held_intrinsics: &mut [f64],
-    out: &mut [u8],
+    held_numbers: &mut HeldNumbers,
+    held_intrinsics: &mut HeldIntrinsics,
+    out: &mut Output,
 ) -> Host {
     let count = take_count(text, h.cursor, 4096);
     let given = take_list(text, count.cursor, count.value);
@@ -215,10 +219,10 @@ fn collapse_given(
 pub fn answer_collapse(
     text: &[u8],
     h: Host,
-    cuts: &mut [u32],
-    held_numbers: &mut [u32],
-    held_intrinsics: &mut [f64],
-    out: &mut [u8],
+    cuts: &mut Cuts,
+    held_numbers: &mut HeldNumbers,
+    held_intrinsics: &mut HeldIntrinsics,
+    out: &mut Output,
 ) -> Host {
     let room = cut(cuts, DECISIONS, ARRAY_WORDS);
     release(cuts, DECISIONS, DECISIONS + 1);

@@ -7,8 +7,6 @@ use answers::parts::floats_at;
 use answers::parts::least;
 use answers::parts::number_at;
 use answers::parts::numbers_at;
-use answers::parts::put_float;
-use answers::parts::put_number;
 use segments::array::ARRAY_SEGMENTS;
 use segments::segment::Segment;
 use segments::segment::zero_segment;
@@ -19,6 +17,10 @@ use text::list::first_numbers;
 pub const HELD_NUMBERS: usize = 12288;
 
 pub const HELD_INTRINSICS: usize = 8192;
+
+pub type HeldNumbers = [u32; HELD_NUMBERS];
+
+pub type HeldIntrinsics = [f64; HELD_INTRINSICS];
 
 fn segment_at(
     k: usize,
@@ -71,13 +73,18 @@ pub fn held_list(n: usize, numbers: &[u32], intrinsics: &[f64]) -> [Segment; ARR
     )
 }
 
-fn hold_segment(k: usize, segment: Segment, numbers: &mut [u32], intrinsics: &mut [f64]) {
+fn hold_segment(
+    k: usize,
+    segment: Segment,
+    numbers: &mut HeldNumbers,
+    intrinsics: &mut HeldIntrinsics,
+) {
     if k < ARRAY_SEGMENTS {
-        put_number(numbers, k, segment.element);
-        put_float(intrinsics, k, segment.start_intrinsic);
-        put_float(intrinsics, ARRAY_SEGMENTS + k, segment.end_intrinsic);
-        put_number(numbers, ARRAY_SEGMENTS + k, segment.first_row);
-        put_number(numbers, 2 * ARRAY_SEGMENTS + k, segment.last_row);
+        numbers[k] = segment.element;
+        intrinsics[k] = segment.start_intrinsic;
+        intrinsics[ARRAY_SEGMENTS + k] = segment.end_intrinsic;
+        numbers[ARRAY_SEGMENTS + k] = segment.first_row;
+        numbers[2 * ARRAY_SEGMENTS + k] = segment.last_row;
     }
 }
 
@@ -85,8 +92,8 @@ fn hold_segment(k: usize, segment: Segment, numbers: &mut [u32], intrinsics: &mu
 pub fn hold(
     list: [Segment; ARRAY_SEGMENTS],
     n: usize,
-    numbers: &mut [u32],
-    intrinsics: &mut [f64],
+    numbers: &mut HeldNumbers,
+    intrinsics: &mut HeldIntrinsics,
 ) {
     let m = least(n, ARRAY_SEGMENTS);
     for k in 0..m {

@@ -1,20 +1,26 @@
 // A line of the case language: its first word, and which function answers it.
 use crate::building::answer_segments;
 use crate::collapsing::answer_collapse;
+use crate::held::HeldIntrinsics;
+use crate::held::HeldNumbers;
 use answers::drive::answer_feed;
 use answers::drive::answer_journal;
 use answers::drive::answer_open;
 use answers::drive::answer_strike;
 use answers::drive::answer_words;
+use answers::host::Cuts;
 use answers::host::Host;
 use answers::host::with_cursor;
 use answers::host::with_out;
+use answers::network::NetworkFloats;
+use answers::network::NetworkNumbers;
 use answers::network::read_network;
 use answers::parts::lend_numbers;
 use answers::paths::answer_close;
 use answers::paths::answer_row;
 use answers::paths::answer_steps;
-use answers::print::print_line;
+use answers::print::Output;
+use answers::print::print_bytes;
 use answers::routes::answer_route;
 use answers::routes::answer_routes;
 use answers::routes::answer_triple;
@@ -54,11 +60,11 @@ pub fn next_line(text: &[u8], ended: bool, h: Host) -> Line {
     }
 }
 
-fn answer_kept(h: Host, out: &mut [u8]) -> Host {
+fn answer_kept(h: Host, out: &mut Output) -> Host {
     if h.kept {
-        return with_out(h, print_line(out, h.out, b"kept", b" yes"));
+        return with_out(h, print_bytes(out, h.out, b"kept yes\n"));
     }
-    with_out(h, print_line(out, h.out, b"kept", b" no"))
+    with_out(h, print_bytes(out, h.out, b"kept no\n"))
 }
 
 // The lines that read the network, on the journal's own words.
@@ -69,8 +75,8 @@ fn ask(
     floats: &[f64],
     numbers: &[u32],
     journal: &mut [u32],
-    cuts: &mut [u32],
-    out: &mut [u8],
+    cuts: &mut Cuts,
+    out: &mut Output,
 ) -> Host {
     match keyword {
         Keyword::Settings => read_settings(text, h),
@@ -95,13 +101,13 @@ pub fn answer(
     keyword: Keyword,
     text: &[u8],
     h: Host,
-    floats: &mut [f64],
-    numbers: &mut [u32],
+    floats: &mut NetworkFloats,
+    numbers: &mut NetworkNumbers,
     journal: &mut [u32],
-    cuts: &mut [u32],
-    held_numbers: &mut [u32],
-    held_intrinsics: &mut [f64],
-    out: &mut [u8],
+    cuts: &mut Cuts,
+    held_numbers: &mut HeldNumbers,
+    held_intrinsics: &mut HeldIntrinsics,
+    out: &mut Output,
 ) -> Host {
     match keyword {
         Keyword::Network => read_network(text, h, floats, numbers),

@@ -8,14 +8,14 @@ mod memory;
 mod turn;
 
 fn main() {
-    let mut text = memory::text();
-    let mut floats = memory::network_floats();
-    let mut numbers = memory::network_numbers();
-    let mut journal = memory::journal();
-    let mut cuts = memory::cuts();
-    let mut held_numbers = memory::held_numbers();
-    let mut held_intrinsics = memory::held_intrinsics();
-    let mut out = memory::out();
+    let mut text = memory::new_text();
+    let mut floats = memory::new_floats();
+    let mut numbers = memory::new_numbers();
+    let mut journal = memory::new_journal();
+    let mut cuts = memory::new_cuts();
+    let mut held_numbers = memory::new_held_numbers();
+    let mut held_intrinsics = memory::new_held_intrinsics();
+    let mut out = memory::new_output();
     turn::run(
         &mut text,
         &mut floats,

@@ -1,12 +1,20 @@
 // The lines of the input, one after the other.
+use crate::held::HeldIntrinsics;
+use crate::held::HeldNumbers;
 use crate::input::Input;
 use crate::input::no_input;
 use crate::input::refill;
 use crate::line::answer;
 use crate::line::next_line;
+use crate::memory::Journal;
+use crate::memory::Text;
+use answers::host::Cuts;
 use answers::host::Host;
 use answers::host::new_host;
 use answers::host::with_cursor;
+use answers::network::NetworkFloats;
+use answers::network::NetworkNumbers;
+use answers::print::Output;
 use answers::print::end_line;
 use answers::print::flush;
 use answers::print::print_bytes;
@@ -34,7 +42,7 @@ fn at_start() -> State {
 }
 
 // The number of the word that could not be read.
-fn print_error(out: &mut [u8], start: usize, c: Cursor) -> usize {
+fn print_error(out: &mut Output, start: usize, c: Cursor) -> usize {
     if c.bad {
         let named = print_bytes(out, start, b"error");
         let told = print_number(out, named, c.words);
@@ -73,13 +81,13 @@ fn supplied(s: State, text: &mut [u8]) -> State {
 fn turn(
     s: State,
     text: &[u8],
-    floats: &mut [f64],
-    numbers: &mut [u32],
+    floats: &mut NetworkFloats,
+    numbers: &mut NetworkNumbers,
     journal: &mut [u32],
-    cuts: &mut [u32],
-    held_numbers: &mut [u32],
-    held_intrinsics: &mut [f64],
-    out: &mut [u8],
+    cuts: &mut Cuts,
+    held_numbers: &mut HeldNumbers,
+    held_intrinsics: &mut HeldIntrinsics,
+    out: &mut Output,
 ) -> State {
     let input = s.input;
     let words = first_bytes(text, input.end);
@@ -115,14 +123,14 @@ fn turn(
 
 // Every line up to the input's end or a word that cannot be read.
 pub fn run(
-    text: &mut [u8],
-    floats: &mut [f64],
-    numbers: &mut [u32],
-    journal: &mut [u32],
-    cuts: &mut [u32],
-    held_numbers: &mut [u32],
-    held_intrinsics: &mut [f64],
-    out: &mut [u8],
+    text: &mut Text,
+    floats: &mut NetworkFloats,
+    numbers: &mut NetworkNumbers,
+    journal: &mut Journal,
+    cuts: &mut Cuts,
+    held_numbers: &mut HeldNumbers,
+    held_intrinsics: &mut HeldIntrinsics,
+    out: &mut Output,
 ) {
     let mut state = at_start();
     for _ in 0..LINES {

@@ -1,4 +1,4 @@
--- `cases::drive::fill_words` meets its contract. Assumes nothing.
+-- `answers::drive::fill_words` meets its contract. Assumes nothing.
 use Prim.Native.Nat.{_-_}
 use mathlib.Core.Path.{_≡_, refl}
 use lib.ListN.{length, length-set}

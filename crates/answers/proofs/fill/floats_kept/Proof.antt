@@ -1,4 +1,4 @@
--- `cases::fill::floats_kept` meets its contract. Assumes nothing.
+-- `answers::fill::floats_kept` meets its contract. Assumes nothing.
 use Prim.Native.Nat.{_-_}
 use native.Mathlib.Omega.{arith}
 use Rattle.answers.proofs.fill.floats_kept.Statement.{statement}

@@ -1,13 +1,11 @@
--- `cases::host::release` meets its contract. Assumes nothing.
+-- `answers::host::release` meets its contract. Assumes nothing.
 use Prim.Native.Nat.{_-_}
-use mathlib.Core.Path.{_≡_, refl}
-use lib.ListN.{length, length-set}
 use native.Mathlib.Omega.{arith}
 use Rattle.answers.proofs.host.release.Statement.{statement}
 use Rattle.answers.proofs.host.release.Tie as tie
 
 abbrev Inv-loop : tie.InvT-loop
-Inv-loop cuts₀ first end n k₀ cuts k = length cuts ≡ length cuts₀
+Inv-loop cuts₀ first end n k₀ cuts k = Unit {0}
 
 abbrev μ-loop : tie.MeasureT-loop
 μ-loop cuts₀ first end n k₀ cuts k = n - k
@@ -16,13 +14,13 @@ least-requires : tie.Need-least-requires Inv-loop μ-loop
 least-requires c κs = tt
 
 loop-holds : tie.Need-loop-holds Inv-loop μ-loop
-loop-holds c = refl
+loop-holds c = tt
 
 mul-cuts : tie.Need-mul-cuts Inv-loop μ-loop
 mul-cuts c = omega arith
 
-slice-write-cuts : tie.Need-slice-write-cuts Inv-loop μ-loop
-slice-write-cuts c = omega arith
+element-write-cuts : tie.Need-element-write-cuts Inv-loop μ-loop
+element-write-cuts c = omega arith
 
 add-k : tie.Need-add-k Inv-loop μ-loop
 add-k c = omega arith
@@ -31,10 +29,7 @@ loop-less : tie.Need-loop-less Inv-loop μ-loop
 loop-less c = omega arith
 
 loop-again : tie.Need-loop-again Inv-loop μ-loop
-loop-again c = simp length-set (omega arith)
-
-same-length : tie.Need-same-length Inv-loop μ-loop
-same-length c = omega arith
+loop-again c = tt
 
 returns : tie.Need-returns Inv-loop μ-loop
 returns c = tt
@@ -48,9 +43,8 @@ release-spec =
     least-requires
     loop-holds
     mul-cuts
-    slice-write-cuts
+    element-write-cuts
     add-k
     loop-less
     loop-again
-    same-length
     returns)

@@ -1,4 +1,4 @@
--- `cases::parts::copy_floats` meets its contract. Assumes nothing.
+-- `answers::parts::copy_floats` meets its contract. Assumes nothing.
 use Prim.Native.Nat.{_-_}
 use mathlib.Core.Path.{_≡_, refl}
 use lib.ListN.{length, length-set}

