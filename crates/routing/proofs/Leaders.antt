@@ -1,223 +1,199 @@
--- Laws of leaders: the leader of two states leads both; a block's leader is kept when a cost is lowered and found again when a state is settled; what
--- is picked among the leaders is what is picked among all states. Assumes nothing.
+-- Laws of the leaders of all groups and blocks: they are kept when a cost is lowered and found again when a state is settled, and a search begins with
+-- them; what is picked among the blocks' leaders is what is picked among all states. Assumes nothing.
 use mathlib.Core.Path.{_≡_, refl, sym, ap, subst, _∙_}
-use mathlib.Core.Bool.{Bool, true, false, cond, not, _&&_}
+use mathlib.Core.Bool.{Bool, true, false, not}
 use mathlib.Core.List.{List}
-use mathlib.Core.Logic.{_⊎_, inl, inr, ⊎-elim}
-use Prim.Native.Nat.{ℕ, zero, suc, _+_, _-_, _*_, _/_, _%_, _<_, _≤_, min}
-use native.Mathlib.Nat.{not-suc-le-zero, le-of-suc-le-suc, eq-or-lt-of-le}
-use native.Mathlib.Decide.{ℕ-discrete, decLt}
+use mathlib.Core.Logic.{inl, inr}
+use Prim.Native.Nat.{ℕ, _+_, _-_, _*_, _/_, _<_, _≤_, min}
+use native.Mathlib.Decide.{ℕ-discrete}
 use native.Mathlib.Omega.{arith}
-use lib.Dec.{T, leb}
+use lib.Dec.{T}
 use lib.ListN.{length, getD, set, length-set, length-replicate, getD-replicate}
 use lib.Seq.{getD-set-same, getD-set-other}
 use lib.Ieee.{Float, nan, inf, lt, le, isNan}
-use borrow.Author.Tests.{leb-true, leb-false}
-use Rattle.lists.proofs.Loops.{two, clash, and-both, both-and}
-use Rattle.binary64.proofs.Order.{taken, missed, le-left, le-refl, le-trans, lt→le, not-lt→le, not-le→lt, lt-of-lt-of-le, lt-of-le-of-lt}
-use Rattle.routing.specs.declared.search.Pick.{Pick}
-use Rattle.routing.specs.declared.search.Pick.the-variants.{At, Nothing}
 use Rattle.binary64.specs.Values.{pzero}
-use Rattle.routing.specs.Search.{costOf, better, pickOf, noCosts, noMarks}
+use Rattle.routing.specs.declared.search.Pick.{Pick}
+use Rattle.routing.specs.Search.{better, pickOf, noCosts, noMarks}
+use Rattle.routing.specs.Blocks.{leader, Leads, Between, endOf, groupOf, blockOf, Inside, Led, groupLeader, blockLeader, noBlocks, Groups, Blocks, groupWith, blockWith, Listed, Comparable}
 use Rattle.routing.proofs.Turns.{repeated, unmarked}
-use Rattle.routing.proofs.LeastPick.{never, below-finite}
-use Rattle.routing.specs.Blocks.{First, leader, Leads, Between, blockEnd, leaderOf, noBlocks, Blocks}
+use Rattle.routing.proofs.Ranges.{leader-either, leader-from, leader-leads, leads-fewer, leads-itself, leads-on, leads-done, lowered-number, first-lowered, first-marked, picked-same, picked-better, pick-picked}
 
--- ---- the leader of two states
+-- ---- the leaders of all ranges
 
--- by its four tests
-abbrev chosen : ℕ → ℕ → Bool → Bool → Bool → Bool → ℕ
-chosen j i mi mj less even = cond mi j (cond mj i (cond less j (cond even j i)))
+-- a state of another range is another state
+elsewhere : (range : ℕ → ℕ) (x i k : ℕ) → range i ≡ k → (k ≡ range x → ⊥) → i ≡ x → ⊥
+elsewhere range x i k w ne e = ne (sym w ∙ ap range e)
 
-chosen-either : (P : ℕ → Type 0) (j i : ℕ) (mi mj less even : Bool) → P j → P i → P (chosen j i mi mj less even)
-chosen-either P j i true mj less even p q = p
-chosen-either P j i false true less even p q = q
-chosen-either P j i false false true even p q = p
-chosen-either P j i false false false true p q = p
-chosen-either P j i false false false false p q = q
+module _ (n : ℕ) (range : ℕ → ℕ) {costs : List Float} {marks : List Bool} {leaders : ℕ → ℕ} (L : Led n range costs marks leaders) where
+  -- a range as the code has it, from `low` to before `end`
+  range-led : (k low end : ℕ) → low < n → range low ≡ k → ((x : ℕ) → Between low end x → Inside n range k x) → ((x : ℕ) → Inside n range k x → Between low end x) →
+      Between low end (leaders k) × Leads costs marks (Between low end) (leaders k)
+  range-led k low end h e inside back = (
+    back _ (subst (λ x. Inside n range x (leaders x)) e (L .within low h)),
+    leads-fewer _ _ _ _ _ inside (subst (λ x. Leads costs marks (Inside n range x) (leaders x)) e (L .leads low h)),
+  )
 
-pub leader-either : (P : ℕ → Type 0) (costs : List Float) (marks : List Bool) (j i : ℕ) → P j → P i → P (leader costs marks j i)
-unfolding leader
-leader-either P costs marks j i p q =
-    chosen-either P j i (getD marks i false) (getD marks j false) (lt (getD costs j nan) (getD costs i nan)) (le (getD costs j nan) (getD costs i nan) && leb j i) p q
+  module _ {after : ℕ → ℕ} where
+    led-same : ((i : ℕ) → i < n → after (range i) ≡ leaders (range i)) → Led n range costs marks after
+    led-same same =
+        record {
+          within = λ i h. rw (same i h) (L .within i h);
+          leads = λ i h. rw (same i h) (L .leads i h);
+        }
 
-module _ (costs : List Float) (marks : List Bool) where
-  abbrev cost : ℕ → Float
-  cost i = getD costs i nan
+    -- the range of s gets a leader, in tables in which every other range keeps its own
+    module _ (s : ℕ) (others : (i : ℕ) → i < n → (range i ≡ range s → ⊥) → after (range i) ≡ leaders (range i)) where
+      led-set : {costs′ : List Float} {marks′ : List Bool} {j : ℕ} → after (range s) ≡ j → Inside n range (range s) j → Leads costs′ marks′ (Inside n range (range s)) j →
+          ((i : ℕ) → i < n → (range i ≡ range s → ⊥) → Leads costs′ marks′ (Inside n range (range i)) (leaders (range i))) → Led n range costs′ marks′ after
+      led-set here inside leads still =
+          record {
+            within = λ i h. elim (ℕ-discrete (range i) (range s)) [
+              | yes e ↦ rw (e, here) inside
+              | no ne ↦ rw (others i h ne) (L .within i h)
+            ];
+            leads = λ i h. elim (ℕ-discrete (range i) (range s)) [
+              | yes e ↦ rw (e, here) leads
+              | no ne ↦ rw (others i h ne) (still i h ne)
+            ];
+          }
 
-  abbrev Number : ℕ → Type 0
-  Number i = T (not (isNan (cost i)))
+      module _ (known : s < n) where
+        -- its cost is lowered
+        led-lowered : (c : Float) → s < length costs → T (lt c (getD costs s nan)) → T (not (isNan (getD costs s nan))) →
+            after (range s) ≡ leader (set costs s c) marks (leaders (range s)) s → Led n range (set costs s c) marks after
+        led-lowered c room less number here =
+            let but : Leads (set costs s c) marks (λ x. Inside n range (range s) x × (x ≡ s → ⊥)) (leaders (range s)) =
+            record { first = λ i w o. first-lowered costs marks s c room less _ i (w .1) (L .leads s known .first i (w .0) o) } in
+            let own = lowered-number costs marks s c room less s number in
+            led-set here
+            (leader-either (Inside n range (range s)) _ _ _ _ (L .within s known) (known, refl))
+            (leads-fewer _ _ _ _ _ (λ x w. elim (ℕ-discrete x s) [ yes i ↦ inl i | no ne ↦ inr (w, ne) ])
+            (leader-leads _ _ _ (λ x. x ≡ s) _ s own but (leads-itself _ _ s own)))
+            (λ k h ne. record { first = λ i w o. first-lowered costs marks s c room less _ i (elsewhere range s i (range k) (w .1) ne) (L .leads k h .first i w o) })
 
-  first-itself : (i : ℕ) → Number i → getD marks i false ≡ false → First costs marks i i
-  first-itself i n o = record { unsettled = o; least = le-refl (cost i) n; earlier = λ h. absurd (omega arith) }
+        -- it is settled
+        led-marked : {j : ℕ} → after (range s) ≡ j → Inside n range (range s) j → Leads costs (set marks s true) (Inside n range (range s)) j →
+            Led n range costs (set marks s true) after
+        led-marked here inside leads =
+            led-set here inside leads
+            (λ k h ne. record {
+              first = λ i w o. first-marked costs marks s _ i (elsewhere range s _ (range k) (L .within k h .1) ne)
+                  (L .leads k h .first i w (sym (getD-set-other marks s i true false (elsewhere range s i (range k) (w .1) ne)) ∙ o));
+            })
 
-  -- i comes before what j comes before, where j does not come before i
-  first-then : (j i x : ℕ) → Number i → getD marks i false ≡ false → lt (cost j) (cost i) ≡ false → le (cost j) (cost i) && leb j i ≡ false →
-      First costs marks j x → First costs marks i x
-  first-then j i x n o less even f =
-      let m : Number j = le-left (cost j) (cost x) (f .least) in
-      let low : T (le (cost i) (cost j)) = not-lt→le (cost j) (cost i) m n (missed less) in
+-- ---- the entries of a state's group and of its block are written
+
+-- an entry that counts from `low`
+entry-here : (low : ℕ) (blocks : List ℕ) (at j : ℕ) → at < length blocks → low ≤ j → low + getD (set blocks at (j - low)) at 0 ≡ j
+entry-here low blocks at j h l = rw (getD-set-same blocks at (j - low) 0 h) (omega arith)
+
+entry-other : (low : ℕ) (blocks : List ℕ) (at k v : ℕ) → (k ≡ at → ⊥) → low + getD (set blocks at v) k 0 ≡ low + getD blocks k 0
+entry-other low blocks at k v ne = rw (getD-set-other blocks at k v 0 ne)
+
+-- the entry of a state's block is not that of its group
+block-kept : (blocks : List ℕ) (i v : ℕ) → blockLeader (set blocks (16 + i / 16) v) (i / 256) ≡ blockLeader blocks (i / 256)
+unfolding blockLeader
+block-kept blocks i v = entry-other _ blocks _ _ _ (λ e. omega arith)
+
+-- the range of s gets the leader j; other ranges of its level and all of the other level keep theirs
+record Written (n s j : ℕ) (range : ℕ → ℕ) (leaders : List ℕ → ℕ → ℕ) (range′ : ℕ → ℕ) (leaders′ : List ℕ → ℕ → ℕ) (blocks after : List ℕ) : Type 0 where
+  room : 272 ≤ length after
+  here : leaders after (range s) ≡ j
+  others : (i : ℕ) → i < n → (range i ≡ range s → ⊥) → leaders after (range i) ≡ leaders blocks (range i)
+  kept : (i : ℕ) → i < n → leaders′ after (range′ i) ≡ leaders′ blocks (range′ i)
+
+module _ (n : ℕ) (few : n ≤ 4096) (blocks : List ℕ) (room : 272 ≤ length blocks) (s : ℕ) (known : s < n) where
+  grouped : (j : ℕ) → 16 * (s / 16) ≤ j → Written n s j groupOf groupLeader blockOf blockLeader blocks (set blocks (16 + s / 16) (j - 16 * (s / 16)))
+  unfolding groupLeader blockLeader
+  grouped j low =
       record {
-        unsettled = o;
-        least = le-trans (cost i) (cost j) (cost x) low (f .least);
-        earlier = λ h. ⊎-elim
-            (λ e. lt-of-le-of-lt (cost i) (cost j) (cost x) low (f .earlier (⊎-elim (λ b. clash (both-and e b) even) (λ b. omega (arith, h, leb-false j i b)) (two (leb j i)))))
-            (λ e. lt-of-lt-of-le (cost i) (cost j) (cost x) (not-le→lt (cost i) (cost j) n m (missed e)) (f .least))
-            (two (le (cost j) (cost i)));
+        room = rw (length-set blocks (16 + s / 16) (j - 16 * (s / 16))) room;
+        here = entry-here _ blocks _ j (omega arith) low;
+        others = λ i h ne. entry-other _ blocks _ _ _ (λ e. ne (omega arith));
+        kept = λ i h. entry-other _ blocks _ _ _ (λ e. omega arith);
       }
 
-  module _ (Among : ℕ → Type 0) (j i : ℕ) (n : Number i) (L : Leads costs marks Among j) where
-    chosen-leads : (mi mj less even : Bool) → getD marks i false ≡ mi → getD marks j false ≡ mj → lt (cost j) (cost i) ≡ less → le (cost j) (cost i) && leb j i ≡ even →
-        Leads costs marks (λ x. (x ≡ i) ⊎ Among x) (chosen j i mi mj less even)
-    chosen-leads true mj less even a b c d =
-        record { first = λ x w o. ⊎-elim (λ (e : x ≡ i). clash (rw e a) o) (λ k. L .first x k o) w }
-    chosen-leads false true less even a b c d =
-        record { first = λ x w o. ⊎-elim (λ (e : x ≡ i). rw e (first-itself i n a)) (λ k. clash b (L .first x k o .unsettled)) w }
-    chosen-leads false false true even a b c d =
-        record { first = λ x w o. ⊎-elim (λ (e : x ≡ i). rw e (record { unsettled = b; least = lt→le (cost j) (cost i) (taken c); earlier = λ h. taken c })) (λ k. L .first x k o) w }
-    chosen-leads false false false true a b c d =
-        let p = and-both (le (cost j) (cost i)) (leb j i) d in
-        record { first = λ x w o. ⊎-elim (λ (e : x ≡ i). rw e (record { unsettled = b; least = taken (p .0); earlier = λ h. absurd (omega (arith, h, leb-true j i (p .1))) })) (λ k. L .first x k o) w }
-    chosen-leads false false false false a b c d =
-        record { first = λ x w o. ⊎-elim (λ (e : x ≡ i). rw e (first-itself i n a)) (λ k. first-then j i x n a c d (L .first x k o)) w }
-
-    pub leader-leads : Leads costs marks (λ x. (x ≡ i) ⊎ Among x) (leader costs marks j i)
-    unfolding leader
-    leader-leads = chosen-leads (getD marks i false) (getD marks j false) (lt (cost j) (cost i)) (le (cost j) (cost i) && leb j i) refl refl refl refl
-
--- ---- the leader of a range, state by state
-
-module _ (costs : List Float) (marks : List Bool) where
-  pub leads-none : (low j : ℕ) → Leads costs marks (Between low low) j
-  leads-none low j = record { first = λ i w o. absurd (omega (arith, w)) }
-
-  leads-fewer : (Among Fewer : ℕ → Type 0) (j : ℕ) → ((i : ℕ) → Fewer i → Among i) → Leads costs marks Among j → Leads costs marks Fewer j
-  leads-fewer Among Fewer j only L = record { first = λ i w o. L .first i (only i w) o }
-
-  pub leads-more : (low i j : ℕ) → T (not (isNan (getD costs i nan))) → Leads costs marks (Between low i) j → Leads costs marks (Between low (i + 1)) (leader costs marks j i)
-  leads-more low i j n L =
-      leads-fewer _ _ _ (λ x w. ⊎-elim (λ (e : x ≡ i). inl e) (λ (l : x < i). inr (w .0, l)) (eq-or-lt-of-le (le-of-suc-le-suc (let h : x < suc i = omega (arith, w .1) in h))))
-      (leader-leads costs marks (Between low i) j i n L)
-
-  pub leads-done : (low i end j : ℕ) → Leads costs marks (Between low i) j → i ≡ end → Leads costs marks (Between low end) j
-  leads-done low i end j L e = rw (← e) L
-
--- ---- a cost is lowered
-
-module _ (costs : List Float) (marks : List Bool) (to : ℕ) (c : Float) (known : to < length costs) (less : T (lt c (getD costs to nan))) where
-  abbrev lowered : List Float
-  lowered = set costs to c
-
-  lowered-here : getD lowered to nan ≡ c
-  lowered-here = getD-set-same costs to c nan known
-
-  lowered-other : (i : ℕ) → (i ≡ to → ⊥) → getD lowered i nan ≡ getD costs i nan
-  lowered-other i ne = getD-set-other costs to i c nan ne
-
-  lowered-number : (i : ℕ) → T (not (isNan (getD costs i nan))) → T (not (isNan (getD lowered i nan)))
-  lowered-number i n =
-      elim (ℕ-discrete i to) [
-        | yes e ↦ rw (e, lowered-here) (le-left c (getD costs to nan) (lt→le c (getD costs to nan) less))
-        | no ne ↦ rw (lowered-other i ne) n
-      ]
-
-  -- what came before i still does, unless i is the one that was lowered
-  first-lowered : (j i : ℕ) → (i ≡ to → ⊥) → First costs marks j i → First lowered marks j i
-  first-lowered j i ne f =
-      elim (ℕ-discrete j to) [
-        | yes e ↦ (
-            let low : T (lt c (getD costs i nan)) = lt-of-lt-of-le c (getD costs to nan) (getD costs i nan) less (subst (λ k. T (le (getD costs k nan) (getD costs i nan))) e (f .least)) in
-            rw e (record { unsettled = subst (λ k. getD marks k false ≡ false) e (f .unsettled); least = rw (lowered-here, lowered-other i ne) (lt→le _ _ low); earlier = λ h. rw (lowered-here, lowered-other i ne) low })
-            )
-        | no je ↦ record { unsettled = f .unsettled; least = rw (lowered-other j je, lowered-other i ne) (f .least); earlier = λ h. rw (lowered-other j je, lowered-other i ne) (f .earlier h) }
-      ]
-
--- ---- one block gets a leader anew
-
-pub block-of : (n i : ℕ) → i < n → (64 * (i / 64) < n) × Between (64 * (i / 64)) (blockEnd n (i / 64)) i
-unfolding blockEnd
-block-of n i h = (omega arith, (omega arith, omega arith))
-
-within-n : (n b i : ℕ) → Between (64 * b) (blockEnd n b) i → i < n
-unfolding blockEnd
-within-n n b i w = omega (arith, w)
-
--- tables in which every other block keeps its leader
-module _ (n : ℕ) {costs costs′ : List Float} {marks marks′ : List Bool} {blocks : List ℕ} (B : Blocks n costs marks blocks) (b j : ℕ)
-    (numbers : (i : ℕ) → i < n → T (not (isNan (getD costs′ i nan)))) (within : Between (64 * b) (blockEnd n b) j)
-    (here : Leads costs′ marks′ (Between (64 * b) (blockEnd n b)) j)
-    (others : (k : ℕ) → (k ≡ b → ⊥) → 64 * k < n → Leads costs′ marks′ (Between (64 * k) (blockEnd n k)) (leaderOf blocks k)) where
-  abbrev after : List ℕ
-  after = set blocks b (j - 64 * b)
-
-  leader-here : leaderOf after b ≡ j
-  unfolding leaderOf blockEnd
-  leader-here = rw (getD-set-same blocks b (j - 64 * b) 0 (omega (arith, within, B .room))) (omega (arith, within))
-
-  leader-other : (k : ℕ) → (k ≡ b → ⊥) → leaderOf after k ≡ leaderOf blocks k
-  unfolding leaderOf
-  leader-other k ne = rw (getD-set-other blocks b k (j - 64 * b) 0 ne)
-
-  pub blocks-set : Blocks n costs′ marks′ after
-  blocks-set =
+  blocked : (k : ℕ) → 256 * (s / 256) ≤ k → Written n s k blockOf blockLeader groupOf groupLeader blocks (set blocks (s / 256) (k - 256 * (s / 256)))
+  unfolding groupLeader blockLeader
+  blocked k low =
       record {
-        room = rw (length-set blocks b (j - 64 * b)) (B .room);
-        numbers = numbers;
-        within = λ k h. elim (ℕ-discrete k b) [
-          | yes e ↦ rw (e, leader-here) within
-          | no ne ↦ rw (leader-other k ne) (B .within k h)
-        ];
-        leads = λ k h. elim (ℕ-discrete k b) [
-          | yes e ↦ rw (e, leader-here) here
-          | no ne ↦ rw (leader-other k ne) (others k ne h)
-        ];
+        room = rw (length-set blocks (s / 256) (k - 256 * (s / 256))) room;
+        here = entry-here _ blocks _ k (omega arith) low;
+        others = λ i h ne. entry-other _ blocks _ _ _ ne;
+        kept = λ i h. entry-other _ blocks _ _ _ (λ e. omega arith);
       }
 
 -- ---- what lowering and settling keep
 
+-- the block's leader is in the tables still when its group's entry was written
+pub still-listed : (costs : List Float) (marks : List Bool) (blocks : List ℕ) (i : ℕ) → Comparable costs marks blocks i → (v : ℕ) →
+    Listed costs marks (blockLeader (set blocks (16 + i / 16) v) (i / 256))
+still-listed costs marks blocks i C v = rw (block-kept blocks i v) (C .block)
+
 module _ (n : ℕ) (costs : List Float) (marks : List Bool) (blocks : List ℕ) (B : Blocks n costs marks blocks) where
-  -- where the code finds the leader of a state's block
-  module _ (i : ℕ) (known : i < n) where
-    pub led : (i / 64 < length blocks) × Between (64 * (i / 64)) n (64 * (i / 64) + getD blocks (i / 64) 0)
-    unfolding leaderOf blockEnd
-    led = let w = B .within (i / 64) (omega arith) in (omega (arith, w, B .room), (omega arith, omega (arith, w)))
+  -- where the code finds the leaders of a state's group and of its block
+  pub comparable : (costs′ : List Float) (i : ℕ) → i < n → n ≤ length costs′ → n ≤ length marks → Comparable costs′ marks blocks i
+  comparable costs′ i known c m =
+      let listed : (x : ℕ) → x < n → Listed costs′ marks x = λ x h. (omega (arith, h, B .groups .few), omega arith, omega arith) in
+      record {
+        room = B .groups .room;
+        state = listed i known;
+        group = listed _ (B .groups .led .within i known .0);
+        block = listed _ (B .led .within i known .0);
+      }
 
-    pub led-again : (costs′ : List Float) {j : ℕ} → j ≡ leader costs′ marks (64 * (i / 64) + getD blocks (i / 64) 0) i → 64 * (i / 64) ≤ j
-    led-again costs′ e = rw e (leader-either (λ x. 64 * (i / 64) ≤ x) costs′ marks _ i (omega arith) (omega arith))
+  module _ (s : ℕ) (known : s < n) where
+    module _ (c : Float) (room : n ≤ length costs) (less : T (lt c (getD costs s nan))) where
+      lowered-blocks : Blocks n (set costs s c) marks (blockWith (set costs s c) marks s (groupWith (set costs s c) marks s blocks))
+      unfolding groupWith blockWith groupLeader blockLeader
+      lowered-blocks =
+          let G = B .groups in
+          let fits : s < length costs = omega arith in
+          let new : List Float = set costs s c in
+          let first = grouped n (G .few) blocks (G .room) s known (leader new marks (groupLeader blocks (s / 16)) s) (leader-from new marks _ _ s (omega arith) (omega arith)) in
+          let then = blocked n (G .few) (groupWith new marks s blocks) (first .room) s known (leader new marks (blockLeader (groupWith new marks s blocks) (s / 256)) s)
+          (leader-from new marks _ _ s (omega arith) (omega arith)) in
+          record {
+            groups = record {
+              few = G .few;
+              room = then .room;
+              numbers = λ i h. lowered-number costs marks s c fits less i (G .numbers i h);
+              led = led-lowered n groupOf (G .led) s (λ i h ne. then .kept i h ∙ first .others i h ne) known c fits less (G .numbers s known) (then .kept s known ∙ first .here);
+            };
+            led = led-lowered n blockOf (B .led) s (λ i h ne. then .others i h ne ∙ first .kept i h) known c fits less (G .numbers s known)
+                (then .here ∙ ap (λ x. leader new marks x s) (first .kept s known));
+          }
 
-  -- a state of another block is another state
-  elsewhere : (k x i : ℕ) → (k ≡ x / 64 → ⊥) → Between (64 * k) (blockEnd n k) i → i ≡ x → ⊥
-  unfolding blockEnd
-  elsewhere k x i ne w e = ne (omega (arith, w, e))
+      pub blocks-lowered : {after : List ℕ} → after ≡ blockWith (set costs s c) marks s (groupWith (set costs s c) marks s blocks) → Blocks n (set costs s c) marks after
+      blocks-lowered e = rw e lowered-blocks
 
-  module _ (to : ℕ) (c : Float) (known : to < n) (room : n ≤ length costs) (less : T (lt c (getD costs to nan))) where
-    lead-but : Leads (set costs to c) marks (λ x. Between (64 * (to / 64)) (blockEnd n (to / 64)) x × (x ≡ to → ⊥)) (leaderOf blocks (to / 64))
-    lead-but = record { first = λ i w o. first-lowered costs marks to c (omega arith) less _ i (w .1) (B .leads (to / 64) (block-of n to known .0) .first i (w .0) o) }
+    -- s is settled: its group gets a leader, then its block
+    module _ {j : ℕ} (w : Between (16 * (s / 16)) (endOf n (16 * (s / 16)) 16) j)
+        (L : Leads costs (set marks s true) (Between (16 * (s / 16)) (endOf n (16 * (s / 16)) 16)) j) where
+      pub groups-marked : Groups n costs (set marks s true) (set blocks (16 + s / 16) (j - 16 * (s / 16)))
+      groups-marked =
+          let G = B .groups in
+          let first = grouped n (G .few) blocks (G .room) s known j (w .0) in
+          record {
+            few = G .few;
+            room = first .room;
+            numbers = G .numbers;
+            led = led-marked n groupOf (G .led) s (first .others) known (first .here) (omega (arith, w), omega (arith, w))
+                (leads-fewer _ _ _ (Inside n groupOf (s / 16)) _ (λ x h. (omega (arith, h), omega (arith, h))) L);
+          }
 
-    pub blocks-lowered : {j : ℕ} → j ≡ leader (set costs to c) marks (64 * (to / 64) + getD blocks (to / 64) 0) to →
-        Blocks n (set costs to c) marks (set blocks (to / 64) (j - 64 * (to / 64)))
-    unfolding leaderOf
-    blocks-lowered {j} e =
-        let b : ℕ = to / 64 in
-        let in-block = block-of n to known in
-        let number : (i : ℕ) → i < n → T (not (isNan (getD (set costs to c) i nan))) = λ i h. lowered-number costs marks to c (omega arith) less i (B .numbers i h) in
-        blocks-set n B b j number
-        (rw e (leader-either (Between (64 * b) (blockEnd n b)) _ _ _ _ (B .within b (in-block .0)) (in-block .1)))
-        (rw e (leads-fewer _ _ _ _ _ (λ x w. elim (ℕ-discrete x to) [ yes i ↦ inl i | no ne ↦ inr (w, ne) ]) (leader-leads _ _ _ _ to (number to known) lead-but)))
-        (λ k ne h. record { first = λ i w o. first-lowered costs marks to c (omega arith) less _ i (elsewhere k to i ne w) (B .leads k h .first i w o) })
-
-  module _ (s : ℕ) (known : s < n) (room : n ≤ length marks) where
-    first-marked : (j i : ℕ) → (j ≡ s → ⊥) → First costs marks j i → First costs (set marks s true) j i
-    first-marked j i ne f = record { unsettled = getD-set-other marks s j true false ne ∙ f .unsettled; least = f .least; earlier = f .earlier }
-
-    pub blocks-marked : {j : ℕ} → let b = s / 64 in Between (64 * b) (blockEnd n b) j → Leads costs (set marks s true) (Between (64 * b) (blockEnd n b)) j →
-        Blocks n costs (set marks s true) (set blocks b (j - 64 * b))
-    blocks-marked {j} w L =
-        blocks-set n B (s / 64) j (B .numbers) w L
-        (λ k ne h. record {
-          first = λ i w o. first-marked _ i (elsewhere k s _ ne (B .within k h))
-              (B .leads k h .first i w (sym (getD-set-other marks s i true false (elsewhere k s i ne w)) ∙ o));
-        })
+      pub blocks-marked : {k : ℕ} → Between (256 * (s / 256)) (endOf n (256 * (s / 256)) 256) k →
+          Leads costs (set marks s true) (Between (256 * (s / 256)) (endOf n (256 * (s / 256)) 256)) k →
+          Blocks n costs (set marks s true) (set (set blocks (16 + s / 16) (j - 16 * (s / 16))) (s / 256) (k - 256 * (s / 256)))
+      blocks-marked {k} v M =
+          let G = groups-marked in
+          let first = grouped n (G .few) blocks (B .groups .room) s known j (w .0) in
+          let then = blocked n (G .few) (set blocks (16 + s / 16) (j - 16 * (s / 16))) (G .room) s known k (v .0) in
+          record {
+            groups = record { few = G .few; room = then .room; numbers = G .numbers; led = led-same n groupOf (G .led) (then .kept) };
+            led = led-marked n blockOf (B .led) s (λ i h ne. then .others i h ne ∙ first .kept i h) known (then .here) (omega (arith, v), omega (arith, v))
+                (leads-fewer _ _ _ (Inside n blockOf (s / 256)) _ (λ x h. (omega (arith, h), omega (arith, h))) M);
+          }
 
 -- ---- where a search begins
 
@@ -226,159 +202,111 @@ module _ (n : ℕ) (few : n ≤ 4096) where
   unfolding noCosts
   none-cost i h = getD-replicate 4096 i (inf false) nan (omega arith)
 
-  none-led : (b : ℕ) → leaderOf noBlocks b ≡ 64 * b
-  unfolding leaderOf noBlocks
-  none-led b = omega (arith, repeated {A = ℕ} 0 64 b)
-
-  blocks-none : Blocks n noCosts noMarks noBlocks
-  unfolding blockEnd noBlocks isNan le
-  blocks-none =
+  -- every range is led by its first state
+  led-none : (range leaders : ℕ → ℕ) → ((i : ℕ) → leaders (range i) ≤ i) → ((i : ℕ) → range (leaders (range i)) ≡ range i) → Led n range noCosts noMarks leaders
+  unfolding le
+  led-none range leaders low inside =
       record {
-        room = few;
-        numbers = λ i h. rw (none-cost i h) tt;
-        within = λ b h. rw (none-led b) (omega arith, omega arith);
-        leads = λ b h. rw (none-led b) (record {
-          first = λ i w o. record { unsettled = unmarked (64 * b); least = rw (none-cost (64 * b) h, none-cost i (omega (arith, w))) tt; earlier = λ l. absurd (omega (arith, w, l)) };
-        });
+        within = λ i h. (omega (arith, low i), inside i);
+        leads = λ i h. record {
+          first = λ x w o. record {
+            unsettled = unmarked (leaders (range i));
+            least = rw (none-cost (leaders (range i)) (omega (arith, low i)), none-cost x (w .0)) tt;
+            earlier = λ l. absurd (omega (arith, l, subst (λ k. leaders k ≤ x) (w .1) (low x)));
+          };
+        };
       }
 
-  -- the start costs 0, and leads its block
+  none-group : (g : ℕ) → groupLeader noBlocks g ≡ 16 * g
+  unfolding groupLeader noBlocks
+  none-group g = omega (arith, repeated {A = ℕ} 0 272 (16 + g))
+
+  none-block : (b : ℕ) → blockLeader noBlocks b ≡ 256 * b
+  unfolding blockLeader noBlocks
+  none-block b = omega (arith, repeated {A = ℕ} 0 272 b)
+
+  blocks-none : Blocks n noCosts noMarks noBlocks
+  unfolding noBlocks isNan
+  blocks-none =
+      record {
+        groups = record {
+          few = few;
+          room = omega (arith, length-replicate {A = ℕ} 272 0);
+          numbers = λ i h. rw (none-cost i h) tt;
+          led = led-none groupOf (groupLeader noBlocks) (λ i. omega (arith, none-group (i / 16))) (λ i. omega (arith, none-group (i / 16)));
+        };
+        led = led-none blockOf (blockLeader noBlocks) (λ i. omega (arith, none-block (i / 256))) (λ i. omega (arith, none-block (i / 256)));
+      }
+
+  -- the start costs 0
   module _ (from : ℕ) (known : 2 * from < n) where
     abbrev started : List Float
     started = set noCosts (2 * from) pzero
 
-    enough : 2 * from < length noCosts
+    enough : n ≤ length noCosts
     unfolding noCosts
-    enough = rw (length-replicate 4096 (inf false)) (omega arith)
+    enough = rw (length-replicate 4096 (inf false)) few
 
     below-none : T (lt pzero (getD noCosts (2 * from) nan))
     unfolding lt
     below-none = rw (none-cost (2 * from) known) tt
 
-    start-first : (i : ℕ) → i < n → First started noMarks (2 * from) i
-    unfolding le lt
-    start-first i h =
-        elim (ℕ-discrete i (2 * from)) [
-          | yes e ↦ record { unsettled = unmarked (2 * from); least = rw (e, lowered-here noCosts noMarks (2 * from) pzero enough below-none) tt; earlier = λ l. absurd (omega arith) }
-          | no ne ↦ (
-              let c = lowered-here noCosts noMarks (2 * from) pzero enough below-none in
-              let d = lowered-other noCosts noMarks (2 * from) pzero enough below-none i ne ∙ none-cost i h in
-              record { unsettled = unmarked (2 * from); least = rw (c, d) tt; earlier = λ l. rw (c, d) tt }
-              )
-        ]
+    pub comparable-begun : Comparable started noMarks noBlocks (2 * from)
+    unfolding noMarks
+    comparable-begun =
+        comparable n noCosts noMarks noBlocks blocks-none started (2 * from) known
+        (rw (length-set noCosts (2 * from) pzero) enough) (rw (length-replicate 4096 false) few)
 
-    pub blocks-begun : Blocks n started noMarks (set noBlocks (from / 32) (2 * (from % 32)))
-    blocks-begun =
-        let b : ℕ = 2 * from / 64 in
-        let half : from / 32 ≡ 2 * from / 64 = omega arith in
-        let offset : 2 * (from % 32) ≡ 2 * from - 64 * (2 * from / 64) = omega arith in
-        let in-block = block-of n (2 * from) known in
-        rw (half, offset)
-        (blocks-set n blocks-none b (2 * from)
-        (λ i h. lowered-number noCosts noMarks (2 * from) pzero enough below-none i (blocks-none .numbers i h))
-        (in-block .1)
-        (record { first = λ i w o. start-first i (within-n n b i w) })
-        (λ k ne h. record {
-          first = λ i w o. first-lowered noCosts noMarks (2 * from) pzero enough below-none _ i
-              (elsewhere n noCosts noMarks noBlocks blocks-none k (2 * from) i ne w) (blocks-none .leads k h .first i w o);
-        }))
+    pub blocks-begun : {after : List ℕ} → after ≡ blockWith started noMarks (2 * from) (groupWith started noMarks (2 * from) noBlocks) → Blocks n started noMarks after
+    blocks-begun = blocks-lowered n noCosts noMarks noBlocks blocks-none (2 * from) known pzero enough below-none
 
--- ---- what is picked
+-- ---- what the code goes through
 
--- `better`, by its two tests
-abbrev taken-if : Pick → ℕ → Bool → Bool → Pick
-taken-if p j m t = cond m p (cond t (At j) p)
+-- the leaders of a group and of a block, as the code goes through them
+module _ (n : ℕ) (costs : List Float) (marks : List Bool) (blocks : List ℕ) where
+  group-led : Groups n costs marks blocks → (g : ℕ) → 16 * g < n →
+      Between (16 * g) (endOf n (16 * g) 16) (groupLeader blocks g) × Leads costs marks (Between (16 * g) (endOf n (16 * g) 16)) (groupLeader blocks g)
+  group-led G g h = range-led n groupOf (G .led) g (16 * g) (endOf n (16 * g) 16) h (omega arith) (λ x w. (omega (arith, w), omega (arith, w))) (λ x w. (omega (arith, w), omega (arith, w)))
 
-module _ (costs : List Float) (marks : List Bool) where
-  -- what is picked among the first n states: the first of them, if it costs less than infinity
-  abbrev Picked : ℕ → Pick → Type 0
-  Picked n (At j) = (j < n) × (getD marks j false ≡ false) × T (lt (cost costs marks j) (inf false)) × Leads costs marks (Between 0 n) j
-  Picked n Nothing = (i : ℕ) → i < n → getD marks i false ≡ false → T (le (inf false) (cost costs marks i))
+  -- a block's leader goes on from group to group
+  module _ (G : Groups n costs marks blocks) (b g end : ℕ) (e : end ≡ endOf n (256 * b) 256) (low : 16 * b ≤ g) (more : 16 * g < end) where
+    pub group-here : 16 * g + getD blocks (16 + g) 0 < n
+    unfolding groupLeader
+    group-here = omega (arith, group-led G g (omega (arith, e, more)) .0)
 
-  picked-low : (n : ℕ) (p : Pick) → Picked n p → (i : ℕ) → i < n → getD marks i false ≡ false → T (le (costOf costs p) (cost costs marks i))
-  unfolding costOf
-  picked-low n (At j) P i h o = P .3 .first i (omega arith, h) o .least
-  picked-low n Nothing P i h o = P i h o
+    pub group-turn : {j r : ℕ} → Between (256 * b) end j → Leads costs marks (Between (256 * b) (min (16 * g) end)) j → r ≡ leader costs marks j (16 * g + getD blocks (16 + g) 0) →
+        Between (256 * b) end r × Leads costs marks (Between (256 * b) (min (16 * (g + 1)) end)) r
+    unfolding groupLeader
+    group-turn {j} {r} w L f =
+        let i : ℕ = groupLeader blocks g in
+        let led = group-led G g (omega (arith, e, more)) in
+        let v = led .0 in
+        let start : min (16 * g) end ≡ 16 * g = omega (arith, more) in
+        let stop : endOf n (16 * g) 16 ≡ min (16 * (g + 1)) end = omega (arith, e, low, more) in (
+          rw f (leader-either (Between (256 * b) end) costs marks j i w (omega (arith, v, low), omega (arith, v, stop))),
+          rw f (leads-on costs marks (256 * b) (16 * g) (min (16 * (g + 1)) end) i j (G .numbers i (omega (arith, v)))
+              (leads-done costs marks _ _ _ _ L start) (leads-done costs marks _ _ _ _ (led .1) stop)),
+        )
 
-  picked-number : (n : ℕ) (p : Pick) → Picked n p → T (not (isNan (costOf costs p)))
-  unfolding costOf isNan
-  picked-number n (At j) P = le-left _ _ (lt→le _ _ (P .2))
-  picked-number n Nothing P = tt
+  module _ (B : Blocks n costs marks blocks) where
+    pub block-led : (b : ℕ) → 256 * b < n →
+        Between (256 * b) (endOf n (256 * b) 256) (blockLeader blocks b) × Leads costs marks (Between (256 * b) (endOf n (256 * b) 256)) (blockLeader blocks b)
+    block-led b h = range-led n blockOf (B .led) b (256 * b) (endOf n (256 * b) 256) h (omega arith) (λ x w. (omega (arith, w), omega (arith, w))) (λ x w. (omega (arith, w), omega (arith, w)))
 
-  picked-same : (n : ℕ) (p q : Pick) → Picked n p → Picked n q → p ≡ q
-  picked-same n (At j) (At k) P Q =
-      let f = P .3 .first k (omega arith, Q .0) (Q .1) in
-      let g = Q .3 .first j (omega arith, P .0) (P .1) in
-      ap At (elim (decLt j k) [
-        | yes h ↦ absurd (never _ _ (g .earlier h) (f .least))
-        | no h ↦ elim (decLt k j) [ yes l ↦ absurd (never _ _ (f .earlier l) (g .least)) | no l ↦ omega arith ]
-      ])
-  picked-same n (At j) Nothing P Q = absurd (never _ _ (P .2) (Q j (P .0) (P .1)))
-  picked-same n Nothing (At k) P Q = absurd (never _ _ (Q .2) (P k (Q .0) (Q .1)))
-  picked-same n Nothing Nothing P Q = refl
+    -- a pick goes on from block to block
+    pub pick-block : (b : ℕ) → 256 * b < n → better costs marks (pickOf costs marks (256 * b)) (blockLeader blocks b) ≡ pickOf costs marks (endOf n (256 * b) 256)
+    pick-block b h =
+        let numbers = B .groups .numbers in
+        let led = block-led b h in
+        picked-same costs marks (endOf n (256 * b) 256) _ _
+        (picked-better costs marks (256 * b) (endOf n (256 * b) 256) (blockLeader blocks b) (numbers (blockLeader blocks b) (omega (arith, led .0))) (led .0) (led .1) _
+        (pick-picked costs marks n numbers (256 * b) (omega arith)))
+        (pick-picked costs marks n numbers (endOf n (256 * b) 256) (omega arith))
 
-  -- a range of further states, and its leader
-  module _ (low end j : ℕ) (number : T (not (isNan (cost costs marks j)))) (within : Between low end j) (L : Leads costs marks (Between low end) j) where
-    -- what holds of the states below the range and of those in it
-    up-to-end : (P : ℕ → Type 0) → ((i : ℕ) → i < low → P i) → ((i : ℕ) → Between low end i → P i) → (i : ℕ) → i < end → P i
-    up-to-end P below in-range i h = elim (decLt i low) [ yes l ↦ below i l | no l ↦ in-range i (omega arith, h) ]
-
-    -- what costs no more than the range's leader stays
-    picked-still : (p : Pick) → Picked low p → ((i : ℕ) → Between low end i → getD marks i false ≡ false → T (le (costOf costs p) (cost costs marks i))) → Picked end p
-    unfolding costOf
-    picked-still (At k) P in-range = (
-      omega (arith, P .0, within),
-      P .1,
-      P .2,
-      record {
-        first = λ i w o. up-to-end (λ x. getD marks x false ≡ false → First costs marks k x) (λ x h. P .3 .first x (omega arith, h))
-            (λ x h q. record { unsettled = P .1; least = in-range x h q; earlier = λ l. absurd (omega (arith, P .0, h, l)) }) i (w .1) o;
-      },
-    )
-    picked-still Nothing P in-range = up-to-end (λ x. getD marks x false ≡ false → T (le (inf false) (cost costs marks x))) P in-range
-
-    picked-if : (p : Pick) (m t : Bool) → getD marks j false ≡ m → lt (cost costs marks j) (costOf costs p) ≡ t → Picked low p → Picked end (taken-if p j m t)
-    picked-if p true t e f P = picked-still p P (λ i w o. clash e (L .first i w o .unsettled))
-    picked-if p false true e f P = (
-      within .1,
-      e,
-      below-finite _ _ (taken f),
-      record {
-        first = λ i w o. up-to-end (λ x. getD marks x false ≡ false → First costs marks j x)
-            (λ x h q. let l = lt-of-lt-of-le _ _ _ (taken f) (picked-low low p P x h q) in record { unsettled = e; least = lt→le _ _ l; earlier = λ _. l })
-            (λ x h q. L .first x h q) i (w .1) o;
-      },
-    )
-    picked-if p false false e f P =
-        picked-still p P (λ i w o. le-trans _ _ _ (not-lt→le _ _ number (picked-number low p P) (missed f)) (L .first i w o .least))
-
-    picked-better : (p : Pick) → Picked low p → Picked end (better costs marks p j)
-    unfolding better
-    picked-better p P = picked-if p (getD marks j false) (lt (cost costs marks j) (costOf costs p)) refl refl P
-
-  module _ (n : ℕ) (numbers : (i : ℕ) → i < n → T (not (isNan (cost costs marks i)))) where
-    pick-picked : (k : ℕ) → k ≤ n → Picked k (pickOf costs marks k)
-    unfolding pickOf
-    pick-picked zero h = λ i l o. absurd (not-suc-le-zero l)
-    pick-picked (suc k) h =
-        picked-better k (suc k) k (numbers k h) (omega arith, omega arith)
-        (record { first = λ i w o. let e : i ≡ k = omega (arith, w) in subst (First costs marks k) (sym e) (first-itself costs marks k (numbers k h) (subst (λ x. getD marks x false ≡ false) e o)) })
-        (pickOf costs marks k) (pick-picked k (omega arith))
-
--- a pick goes on from block to block
-module _ (n : ℕ) (costs : List Float) (marks : List Bool) (blocks : List ℕ) (B : Blocks n costs marks blocks) where
-  pub pick-block : (b : ℕ) → 64 * b < n → better costs marks (pickOf costs marks (64 * b)) (leaderOf blocks b) ≡ pickOf costs marks (blockEnd n b)
-  unfolding blockEnd
-  pick-block b h =
-      let w = B .within b h in
-      picked-same costs marks (blockEnd n b) _ _
-      (picked-better costs marks (64 * b) (blockEnd n b) (leaderOf blocks b) (B .numbers (leaderOf blocks b) (omega (arith, w))) w (B .leads b h) _ (pick-picked costs marks n (B .numbers) (64 * b) (omega arith)))
-      (pick-picked costs marks n (B .numbers) (blockEnd n b) (omega arith))
-
-  pub pick-turn : (b : ℕ) → 64 * b < n → {p r : Pick} → p ≡ pickOf costs marks (min (64 * b) n) → r ≡ better costs marks p (64 * b + getD blocks b 0) →
-      r ≡ pickOf costs marks (min (64 * (b + 1)) n)
-  unfolding leaderOf blockEnd
-  pick-turn b h e f =
-      let low : min (64 * b) n ≡ 64 * b = omega arith in
-      let end : min (64 * b + 64) n ≡ min (64 * (b + 1)) n = omega arith in
-      f ∙ rw (e, low, ← end) (pick-block b h)
+    pub pick-turn : (b : ℕ) → 256 * b < n → {p r : Pick} → p ≡ pickOf costs marks (min (256 * b) n) → r ≡ better costs marks p (256 * b + getD blocks b 0) →
+        r ≡ pickOf costs marks (min (256 * (b + 1)) n)
+    unfolding blockLeader
+    pick-turn b h e f =
+        let low : min (256 * b) n ≡ 256 * b = omega arith in
+        let end : min (256 * b + 256) n ≡ min (256 * (b + 1)) n = omega arith in
+        f ∙ rw (e, low, ← end) (pick-block b h)

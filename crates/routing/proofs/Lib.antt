@@ -7,6 +7,7 @@ pub mod Kept
 pub mod WalkCosts
 pub mod Relaxing
 pub mod LeastPick
+pub mod Ranges
 pub mod Leaders
 pub mod Chains
 pub mod Traces

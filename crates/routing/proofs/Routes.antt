@@ -3,7 +3,7 @@
 use mathlib.Core.Path.{_≡_, refl, sym, ap, subst, _∙_}
 use mathlib.Core.Bool.{Bool, true, false}
 use mathlib.Core.List.{List, reverse}
-use Prim.Native.Nat.{ℕ, zero, suc, _*_, _/_, _%_, _<_}
+use Prim.Native.Nat.{ℕ, zero, suc, _*_, _<_}
 use native.Mathlib.Omega.{arith}
 use lib.Dec.{ltb}
 use lib.ListN.{length, getD, set, length-replicate, length-reverse}
@@ -25,11 +25,11 @@ use Rattle.routing.specs.Network.{Network, Graph, count, checked}
 use Rattle.routing.specs.Walks.{node}
 use Rattle.routing.specs.Sound.{Sound, Room}
 use Rattle.routing.specs.Search.{Within, Tables, Search, searchOf, Ended, run, left, noCosts, noPreds, noMarks, begun, searched}
-use Rattle.routing.specs.Blocks.{noBlocks, Blocks}
+use Rattle.routing.specs.Blocks.{noBlocks, Blocks, groupWith, blockWith, Comparable}
 use Rattle.routing.specs.Route.{knownSide, endCost, costOfEnd, route, stepsBack, back, endStates, statesOfEnd, routeStates, distanceBy, distanceOf, listingOf, listingBy, listing, stored}
 use Rattle.routing.specs.Triple.{consistent, consistencyOf, consistencyBy, consistency}
 use Rattle.routing.proofs.Turns.{left-all}
-use Rattle.routing.proofs.Leaders.{blocks-begun}
+use Rattle.routing.proofs.Leaders.{comparable-begun, blocks-begun}
 use Rattle.routing.proofs.Kept.{begun-full, searched-lengths, searched-preds, searched-within}
 
 pub length-back : (preds : List ℕ) (n s : ℕ) → length (back preds n s) ≡ n
@@ -55,10 +55,14 @@ module _ (from : ℕ) {costs : List Float} {preds : List ℕ} {marks : List Bool
       let full = begun-full from in
       rw is-begun (record { costs = omega (arith, full .costs, sound .few); preds = omega (arith, full .preds, sound .few); marks = omega (arith, full .marks, sound .few) })
 
-  -- the start leads its block
-  pub begun-blocks : {blocks : List ℕ} → blocks ≡ noBlocks → (g : Graph) → Sound g → from < 2 * count g →
-      Blocks (4 * count g) (set costs (2 * from) pzero) marks (set blocks (from / 32) (2 * (from % 32)))
-  begun-blocks bs g sound known = rw (cs, ms, bs) (blocks-begun (4 * count g) (omega (arith, sound .few)) from (omega arith))
+  -- the leaders, with the start among them
+  module _ {blocks : List ℕ} (bs : blocks ≡ noBlocks) (g : Graph) (sound : Sound g) (known : from < 2 * count g) where
+    pub begun-comparable : Comparable (set costs (2 * from) pzero) marks blocks (2 * from)
+    begun-comparable = rw (cs, ms, bs) (comparable-begun (4 * count g) (omega (arith, sound .few)) from (omega arith))
+
+    pub begun-blocks : {after : List ℕ} → after ≡ blockWith (set costs (2 * from) pzero) marks (2 * from) (groupWith (set costs (2 * from) pzero) marks (2 * from) blocks) →
+        Blocks (4 * count g) (set costs (2 * from) pzero) marks after
+    begun-blocks e = rw (cs, ms) (blocks-begun (4 * count g) (omega (arith, sound .few)) from (omega arith) (e ∙ rw (cs, ms, bs)))
 
 -- the search from there is `searched`
 pub is-searched : (g : Graph) (from goal : ℕ) {e : Ended} {q : Search} → q ≡ begun from → e ≡ run g goal (left (q .marks) (4 * count g)) q → e ≡ searched g from goal

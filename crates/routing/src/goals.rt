@@ -1,4 +1,5 @@
 // The cheapest routes from one node to several goals: one search serves them all, and each gets the cost that a search of its own would find.
+use crate::blocks::lower_leaders;
 use crate::blocks::no_blocks;
 use crate::route::Route;
 use crate::search::Pick;
@@ -159,7 +160,7 @@ pub fn distances_from(
     let mut marks = no_marks();
     let mut blocks = no_blocks();
     costs[2 * start] = 0.0;
-    blocks[start / 32] = 2 * (start % 32);
+    lower_leaders(&costs, &marks, &mut blocks, 2 * start);
     clear_goals(found, goals.len());
     serve_goals(
         &mut costs,

@@ -1,5 +1,5 @@
 // The search for a route, over tables of four states per element.
-use crate::blocks::lead;
+use crate::blocks::lower_leaders;
 use crate::blocks::mark_state;
 use crate::blocks::no_blocks;
 use crate::index::index_links;
@@ -77,8 +77,8 @@ pub fn next_state(costs: &[f64], marks: &[bool], blocks: &[usize], states: usize
 {
     let mut best = Pick::Nothing;
     let mut b = 0;
-    while 64 * b < states {
-        best = better_of(costs, marks, best, 64 * b + blocks[b]);
+    while 256 * b < states {
+        best = better_of(costs, marks, best, 256 * b + blocks[b]);
         b += 1;
     }
     best
@@ -104,8 +104,7 @@ fn lower_state(
     if cost < costs[to] {
         costs[to] = cost;
         preds[to] = from as u32;
-        let b = to / 64;
-        blocks[b] = lead(costs, marks, 64 * b + blocks[b], to) - 64 * b;
+        lower_leaders(costs, marks, blocks, to);
     }
 }
 
@@ -310,7 +309,7 @@ pub fn search_between(
         &mut nexts,
     );
     costs[2 * start] = 0.0;
-    blocks[start / 32] = 2 * (start % 32);
+    lower_leaders(costs, &marks, &mut blocks, 2 * start);
     find(
         costs,
         preds,

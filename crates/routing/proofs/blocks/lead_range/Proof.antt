@@ -4,7 +4,7 @@ use native.Mathlib.Omega.{arith}
 use Rattle.routing.specs.Blocks.{Leads, Between}
 use Rattle.routing.proofs.blocks.lead_range.Statement.{statement}
 use Rattle.routing.proofs.blocks.lead_range.Tie as tie
-use Rattle.routing.proofs.Leaders.{leader-either, leads-none, leads-more, leads-done}
+use Rattle.routing.proofs.Ranges.{leader-either, leads-none, leads-more, leads-done}
 
 abbrev Inv-loop : tie.InvT-loop
 Inv-loop costs marks low end j₀ i₀ j i = (low ≤ i) × (i ≤ end) × Between low end j × Leads costs marks (Between low i) j

@@ -6,7 +6,7 @@ use lib.Ieee.{ofBits}
 use Rattle.routing.specs.Search.{Ended}
 use Rattle.routing.proofs.search.search_between.Statement.{statement}
 use Rattle.routing.proofs.search.search_between.Tie as tie
-use Rattle.routing.proofs.Routes.{begun-fits, is-begun, begun-room, begun-blocks, is-searched}
+use Rattle.routing.proofs.Routes.{begun-fits, is-begun, begun-room, begun-comparable, begun-blocks, is-searched}
 
 no-marks-requires : tie.Need-no-marks-requires
 no-marks-requires c κs = search needs
@@ -38,14 +38,18 @@ mul-costs-2 c = search needs
 slice-write-costs : tie.Need-slice-write-costs
 slice-write-costs c = begun-fits (c .before .before .before .before .before .before .before .before .before .before .before .before .before .before .before .before .before .before .pre .1 .1 .0) _ (c .before .before .before .before .before .before .before .before .before .before .before .before .before .before .before .before .before .before .pre .0) _ (c .before .before .before .before .before .before .before .before .before .before .before .before .before .before .before .before .before .before .pre .1 .0)
 
-mul-blocks : tie.Need-mul-blocks
-mul-blocks c = search needs
+slice-aggregate-lower-leaders : tie.Need-slice-aggregate-lower-leaders
+slice-aggregate-lower-leaders c = search needs
 
-mul-blocks-2 : tie.Need-mul-blocks-2
-mul-blocks-2 c = search needs
+slice-aggregate-lower-leaders-2 : tie.Need-slice-aggregate-lower-leaders-2
+slice-aggregate-lower-leaders-2 c = search needs
 
-array-write-blocks : tie.Need-array-write-blocks
-array-write-blocks c = search needs
+mul-lower-leaders : tie.Need-mul-lower-leaders
+mul-lower-leaders c = search needs
+
+lower-leaders-requires : tie.Need-lower-leaders-requires
+unfolding ofBits
+lower-leaders-requires c κs = begun-comparable (c .before .before .before .before .before .before .before .before .before .before .before .before .before .before .before .before .before .before .before .before .before .args .start) (c .before .before .before .before .before .before .before .before .before .before .before .before .before .before .before .before .before .before .before .before .before .pre .1 .1 .0) (c .before .before .before .before .before .before .before .before .before .before .before .before .before .before .before .before .before .before .before .before .before .pre .1 .1 .1) (c .before .before .before .before .before .before .before .before .before .before .before .no-marks .ensures) (c .before .before .before .before .before .before .before .before .before .before .no-blocks .ensures) _ (c .before .before .before .before .before .before .before .before .before .before .before .before .before .before .before .before .before .before .before .before .before .pre .0) (c .before .before .before .before .before .before .before .before .before .before .before .before .before .before .before .before .before .before .before .before .before .pre .1 .0)
 
 slice-aggregate-find : tie.Need-slice-aggregate-find
 slice-aggregate-find c = search needs
@@ -61,7 +65,7 @@ slice-aggregate-find-4 c = search needs
 
 find-requires : tie.Need-find-requires
 unfolding ofBits
-find-requires c κs = (c .before .before .before .before .before .before .before .before .before .before .before .before .before .before .before .before .before .before .before .before .before .before .before .before .pre .0, (begun-room _ (c .before .before .before .before .before .before .before .before .before .before .before .before .before .before .before .before .before .before .before .before .before .before .before .before .pre .1 .1 .0) (c .before .before .before .before .before .before .before .before .before .before .before .before .before .before .before .before .before .before .before .before .before .before .before .before .pre .1 .1 .1) (c .before .before .before .before .before .before .before .before .before .before .before .before .before .before .no-marks .ensures) _ (c .before .before .before .before .before .before .before .before .before .before .before .before .before .before .before .before .before .before .before .before .before .before .before .before .pre .0), (begun-blocks _ (c .before .before .before .before .before .before .before .before .before .before .before .before .before .before .before .before .before .before .before .before .before .before .before .before .pre .1 .1 .0) (c .before .before .before .before .before .before .before .before .before .before .before .before .before .before .before .before .before .before .before .before .before .before .before .before .pre .1 .1 .1) (c .before .before .before .before .before .before .before .before .before .before .before .before .before .before .no-marks .ensures) (c .before .before .before .before .before .before .before .before .before .before .before .before .before .no-blocks .ensures) _ (c .before .before .before .before .before .before .before .before .before .before .before .before .before .before .before .before .before .before .before .before .before .before .before .before .pre .0) (c .before .before .before .before .before .before .before .before .before .before .before .before .before .before .before .before .before .before .before .before .before .before .before .before .pre .1 .0), c .before .before .before .before .before .before .before .before .index-links .ensures)))
+find-requires c κs = (c .before .before .before .before .before .before .before .before .before .before .before .before .before .before .before .before .before .before .before .before .before .before .before .before .before .before .before .before .before .pre .0, (begun-room _ (c .before .before .before .before .before .before .before .before .before .before .before .before .before .before .before .before .before .before .before .before .before .before .before .before .before .before .before .before .before .pre .1 .1 .0) (c .before .before .before .before .before .before .before .before .before .before .before .before .before .before .before .before .before .before .before .before .before .before .before .before .before .before .before .before .before .pre .1 .1 .1) (c .before .before .before .before .before .before .before .before .before .before .before .before .before .before .before .before .before .before .before .no-marks .ensures) _ (c .before .before .before .before .before .before .before .before .before .before .before .before .before .before .before .before .before .before .before .before .before .before .before .before .before .before .before .before .before .pre .0), (begun-blocks (c .before .before .before .before .before .before .before .before .before .before .before .before .before .before .before .before .before .before .before .before .before .before .before .before .before .before .before .before .before .args .start) (c .before .before .before .before .before .before .before .before .before .before .before .before .before .before .before .before .before .before .before .before .before .before .before .before .before .before .before .before .before .pre .1 .1 .0) (c .before .before .before .before .before .before .before .before .before .before .before .before .before .before .before .before .before .before .before .before .before .before .before .before .before .before .before .before .before .pre .1 .1 .1) (c .before .before .before .before .before .before .before .before .before .before .before .before .before .before .before .before .before .before .before .no-marks .ensures) (c .before .before .before .before .before .before .before .before .before .before .before .before .before .before .before .before .before .before .no-blocks .ensures) _ (c .before .before .before .before .before .before .before .before .before .before .before .before .before .before .before .before .before .before .before .before .before .before .before .before .before .before .before .before .before .pre .0) (c .before .before .before .before .before .before .before .before .before .before .before .before .before .before .before .before .before .before .before .before .before .before .before .before .before .before .before .before .before .pre .1 .0) (c .before .before .before .before .before .before .before .lower-leaders .ensures), c .before .before .before .before .before .before .before .before .before .before .before .before .before .index-links .ensures)))
 
 same-length : tie.Need-same-length
 same-length c = c .before .before .before .before .before .costs .given ∙ simp length-set
@@ -71,7 +75,7 @@ same-length-2 c = c .before .before .before .preds .given
 
 returns : tie.Need-returns
 unfolding ofBits
-returns c = let s = is-searched _ _ (c .before .before .before .before .before .before .before .before .before .before .before .before .before .before .before .before .before .before .before .before .before .before .before .before .before .before .before .before .before .before .before .args .goal) (is-begun (c .before .before .before .before .before .before .before .before .before .before .before .before .before .before .before .before .before .before .before .before .before .before .before .before .before .before .before .before .before .before .before .args .start) (c .before .before .before .before .before .before .before .before .before .before .before .before .before .before .before .before .before .before .before .before .before .before .before .before .before .before .before .before .before .before .before .pre .1 .1 .0) (c .before .before .before .before .before .before .before .before .before .before .before .before .before .before .before .before .before .before .before .before .before .before .before .before .before .before .before .before .before .before .before .pre .1 .1 .1) (c .before .before .before .before .before .before .before .before .before .before .before .before .before .before .before .before .before .before .before .before .before .no-marks .ensures)) (c .before .before .before .before .before .before .find .ensures) in (ap (λ (e : Ended). e .pick) s, ap (λ (e : Ended). e .search .tables) s)
+returns c = let s = is-searched _ _ (c .before .before .before .before .before .before .before .before .before .before .before .before .before .before .before .before .before .before .before .before .before .before .before .before .before .before .before .before .before .before .before .before .before .before .before .before .args .goal) (is-begun (c .before .before .before .before .before .before .before .before .before .before .before .before .before .before .before .before .before .before .before .before .before .before .before .before .before .before .before .before .before .before .before .before .before .before .before .before .args .start) (c .before .before .before .before .before .before .before .before .before .before .before .before .before .before .before .before .before .before .before .before .before .before .before .before .before .before .before .before .before .before .before .before .before .before .before .before .pre .1 .1 .0) (c .before .before .before .before .before .before .before .before .before .before .before .before .before .before .before .before .before .before .before .before .before .before .before .before .before .before .before .before .before .before .before .before .before .before .before .before .pre .1 .1 .1) (c .before .before .before .before .before .before .before .before .before .before .before .before .before .before .before .before .before .before .before .before .before .before .before .before .before .before .no-marks .ensures)) (c .before .before .before .before .before .before .find .ensures) in (ap (λ (e : Ended). e .pick) s, ap (λ (e : Ended). e .search .tables) s)
 
 pub search-between-spec : {M : Type 1} → statement M
 search-between-spec =
@@ -87,9 +91,10 @@ search-between-spec =
     mul-costs
     mul-costs-2
     slice-write-costs
-    mul-blocks
-    mul-blocks-2
-    array-write-blocks
+    slice-aggregate-lower-leaders
+    slice-aggregate-lower-leaders-2
+    mul-lower-leaders
+    lower-leaders-requires
     slice-aggregate-find
     slice-aggregate-find-2
     slice-aggregate-find-3
