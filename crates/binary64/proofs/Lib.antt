@@ -5,3 +5,4 @@ pub mod Same
 pub mod Costs
 pub mod Bounds
 pub mod Ranges
+pub mod Patterns

@@ -18,7 +18,7 @@ use Rattle.binary64.specs.Values.{clear}
 use Rattle.binary64.proofs.Order.{pl, mi, plus, minus, Cross, pl-mul, mi-mul, le→cross, cross→le, le-right, le-refl, le-trans, lowest, highest}
 
 -- ---- what `round f s` makes
-odd-neg : (d q k l : ℕ) → odd d true q k l ≡ neg (odd d false q k l)
+pub odd-neg : (d q k l : ℕ) → odd d true q k l ≡ neg (odd d false q k l)
 unfolding odd neg
 odd-neg d zero k l = refl
 odd-neg d (suc q) k l = refl

@@ -5,6 +5,7 @@ pub mod Product
 pub mod Stores
 pub mod Reading
 pub mod WellFormed
+pub mod HighHalf
 pub mod Tests
 pub mod Records
 pub mod Walk

@@ -3,9 +3,10 @@ use Prim.Native.Nat.{ℕ, _+_, _*_, _/_, _%_, _<_, _≤_}
 use native.Mathlib.Omega.{arith}
 use native.Mathlib.Nat.{add-zero, add-assoc}
 use mathlib.Core.Path.{_≡_, ap, _∙_, subst}
-use mathlib.Core.Bool.{Bool, not, _&&_, _||_}
+use mathlib.Core.Bool.{Bool, not, _&&_, _||_, and-assoc}
 use mathlib.Core.List.{List, [], _∷_, _++_}
 use lib.Dec.{T, eqb, eqb→eq}
+use borrow.Author.Tests.{lt-ltb, le-leb}
 use lib.ListN.{length, getD, drop, length-drop}
 use lib.Seq.{getD-drop}
 use lib.Ieee.{Float, nan, inf, fin, binary64, toBits, isNan}
@@ -141,12 +142,17 @@ pub cell-at : (at : ℕ) (ws : List ℕ) → readCell (drop at ws)
     }
 cell-at at ws = rw (drop-first at ws, drop-float at 1 ws, drop-float at 3 ws, drop-float at 5 ws)
 
+-- element and near are within their bits
+candidate-at : (at : ℕ) (ws : List ℕ) → candidateOk elementLimit (readCell (drop at ws) .candidate) ≡ intrinsicOk (floatAt ws (at + 1)) && rawLogOk (floatAt ws (at + 3))
+unfolding candidateOk
+candidate-at at ws = rw (drop-first at ws, drop-float at 1 ws, drop-float at 3 ws, lt-ltb (getD ws at 0 % 1024) 1024 (omega arith), le-leb (getD ws at 0 / 1024 % 2) 1 (omega arith))
+
 pub cell-at-test : (p n at : ℕ) (ws : List ℕ) → Words ws → at + 7 ≤ length ws
     → wellRead cellWords readCell (cellOk p n) (drop at ws)
-    ≡ eqb (getD ws at 0 / 65536) 8192 && (candidateOk elementLimit (readCell (drop at ws) .candidate) && (parentOk p (getD ws at 0 / 2048 % 32) && scoreOk n (floatAt ws (at + 5))))
+    ≡ eqb (getD ws at 0 / 65536) 8192 && (intrinsicOk (floatAt ws (at + 1)) && (rawLogOk (floatAt ws (at + 3)) && (parentOk p (getD ws at 0 / 2048 % 32) && scoreOk n (floatAt ws (at + 5)))))
 cell-at-test p n at ws w h =
     let long : 7 ≤ length (drop at ws) = simp length-drop (omega arith) in
-    cell-test p n (drop at ws) (drop-words at ws w) long ∙ (unfold cellOk in rw (drop-first at ws, drop-float at 5 ws))
+    cell-test p n (drop at ws) (drop-words at ws w) long ∙ (unfold cellOk in rw (candidate-at at ws, drop-first at ws, drop-float at 5 ws, and-assoc))
 
 pub distance-at-test : (at : ℕ) (ws : List ℕ) → Words ws → at + 1 < length ws → wellRead floatWords readDistance distanceOk (drop at ws) ≡ distanceOk (floatAt ws at)
 distance-at-test at ws w h =

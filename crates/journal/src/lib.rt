@@ -2,6 +2,7 @@
 pub mod call;
 pub mod check;
 pub mod float;
+mod halves;
 pub mod range;
 pub mod read;
 pub mod record;

@@ -1,10 +1,12 @@
 // The row reader: it sees one record from its first word.
 use crate::float::float_at;
-use crate::float::is_finite;
-use crate::range::candidate_ok;
+use crate::halves::finite_reads;
+use crate::halves::greatest_half;
+use crate::halves::intrinsic_reads;
+use crate::halves::raw_log_reads;
+use crate::halves::score_reads;
 use crate::range::distance_ok;
 use crate::range::parent_ok;
-use crate::range::score_ok;
 use crate::record::Candidate;
 use crate::record::distance_count;
 use crate::record::record_length;
@@ -51,13 +53,16 @@ fn cell_reads(words: &[u32], at: usize, p: u32, row: usize) -> bool
     if w / 65536 != 8192 {
         return false;
     }
-    if !candidate_ok(candidate_at(words, at), 1024) {
+    if !intrinsic_reads(words, at + 1) {
+        return false;
+    }
+    if !raw_log_reads(words, at + 3) {
         return false;
     }
     if !parent_ok(w / 2048 % 32, p) {
         return false;
     }
-    score_ok(float_at(words, at + 5), row)
+    score_reads(words, at + 5, row)
 }
 
 // Whether those of c candidates are.
@@ -83,8 +88,8 @@ fn distance_reads(words: &[u32], at: usize) -> bool
     distance_ok(float_at(words, at))
 }
 
-// Whether those of n distances from `at` on are.
-fn distances_read(words: &[u32], at: usize, n: usize) -> bool
+// Whether those of n distances from `at` on are, one after the other.
+fn each_distance_reads(words: &[u32], at: usize, n: usize) -> bool
     requires { ⌜ at + 2 * n ≤ length (now words) ⌝ }
     ensures { λ r. ⌜ r ≡ every n (λ k. wellRead floatWords readDistance distanceOk (drop (at + 2 * k) (now (words .entry)))) ⌝ }
 {
@@ -98,6 +103,17 @@ fn distances_read(words: &[u32], at: usize, n: usize) -> bool
     true
 }
 
+// The same: distances below 2^24 m are in range, which the greatest of their high halves tells of all of them.
+fn distances_read(words: &[u32], at: usize, n: usize) -> bool
+    requires { ⌜ at + 2 * n ≤ length (now words) ⌝ }
+    ensures { λ r. ⌜ r ≡ every n (λ k. wellRead floatWords readDistance distanceOk (drop (at + 2 * k) (now (words .entry)))) ⌝ }
+{
+    if greatest_half(words, at, n) < 0x4170_0000 {
+        return true;
+    }
+    each_distance_reads(words, at, n)
+}
+
 // Whether one of the scores of c candidates is finite.
 fn scores_read(words: &[u32], c: usize) -> bool
     requires { ⌜ 1 + 7 * c ≤ length (now words) ⌝ }
@@ -105,7 +121,7 @@ fn scores_read(words: &[u32], c: usize) -> bool
 {
     let mut k = 0;
     while k < c {
-        if is_finite(float_at(words, 6 + 7 * k)) {
+        if finite_reads(words, 6 + 7 * k) {
             return true;
         }
         k += 1;

@@ -1,63 +1,30 @@
 -- `journal::read::distances_read` meets its contract. Assumes nothing.
-use Prim.Native.Nat.{_+_, _*_, _-_, _≤_}
+use Prim.Native.Nat.{_+_, _*_}
+use Rattle.journal.proofs.HighHalf.{distance-half}
+use Rattle.journal.proofs.Tests.{distance-at-test}
+use Rattle.lists.proofs.Loops.{every-all}
+use borrow.Author.Needs.{needs}
+use mathlib.Core.Path.{sym, _∙_}
 use native.Mathlib.Omega.{arith}
-use mathlib.Core.Bool.{true}
-use mathlib.Core.Path.{_≡_, sym, _∙_}
-use borrow.Author.Tests.{not-true, not-false}
-use lib.ListN.{drop}
-use Rattle.lists.proofs.Loops.{every-none, every-turn, every-done, every-stop}
-use Rattle.lists.specs.Loops.{every}
-use Rattle.journal.specs.Check.{wellRead}
-use Rattle.journal.specs.Record.{floatWords, readDistance}
-use Rattle.journal.specs.Ranges.{distanceOk}
 use Rattle.journal.proofs.read.distances_read.Statement.{statement}
 use Rattle.journal.proofs.read.distances_read.Tie as tie
 
-abbrev Inv-loop : tie.InvT-loop
-Inv-loop words at n k₀ k = (k ≤ n) × (every k (λ j. wellRead floatWords readDistance distanceOk (drop (at + 2 * j) words)) ≡ true)
+greatest-half-requires : tie.Need-greatest-half-requires
+greatest-half-requires c κs = search needs
 
-abbrev μ-loop : tie.MeasureT-loop
-μ-loop words at n k₀ k = n - k
+returns : tie.Need-returns
+returns c =
+    let s = c .before .before .before .args in
+    let word = c .before .before .shared-slice-known .given in
+    sym (every-all _ _ (λ k h. distance-at-test (s .at + 2 * k) (s .words .now) (λ j. omega (arith, word j)) (omega arith)
+    ∙ distance-half _ _ (omega (arith, word (s .at + 2 * k + 1))) (omega (arith, c .before .greatest-half .ensures k h))))
 
-loop-holds : tie.Need-loop-holds Inv-loop μ-loop
-loop-holds c = (omega arith, every-none _)
+each-distance-reads-requires : tie.Need-each-distance-reads-requires
+each-distance-reads-requires c κs = search needs
 
-mul-distance-reads : tie.Need-mul-distance-reads Inv-loop μ-loop
-mul-distance-reads c = omega arith
-
-add-distance-reads : tie.Need-add-distance-reads Inv-loop μ-loop
-add-distance-reads c = omega arith
-
-distance-reads-requires : tie.Need-distance-reads-requires Inv-loop μ-loop
-distance-reads-requires c κs = omega arith
-
-returns : tie.Need-returns Inv-loop μ-loop
-returns c = every-stop (c .before .before .before .loop .k) _ _ (c .before .before .loop-test .taken) (sym (c .before .distance-reads .ensures) ∙ not-true _ (c .if1 .taken))
-
-add-k : tie.Need-add-k Inv-loop μ-loop
-add-k c = omega arith
-
-loop-less : tie.Need-loop-less Inv-loop μ-loop
-loop-less c = omega arith
-
-loop-again : tie.Need-loop-again Inv-loop μ-loop
-loop-again c = (omega arith, every-turn _ _ (c .before .before .before .loop .inv .1) (sym (c .before .distance-reads .ensures) ∙ not-false _ (c .if1 .left)))
-
-returns-2 : tie.Need-returns-2 Inv-loop μ-loop
-returns-2 c = every-done _ _ _ (c .before .loop .inv .1) (omega arith)
+returns-2 : tie.Need-returns-2
+returns-2 c = search needs
 
 pub distances-read-spec : {M : Type 1} → statement M
 distances-read-spec =
-    tie.close
-    (tie.spec
-    Inv-loop
-    μ-loop
-    loop-holds
-    mul-distance-reads
-    add-distance-reads
-    distance-reads-requires
-    returns
-    add-k
-    loop-less
-    loop-again
-    returns-2)
+    tie.close (tie.spec greatest-half-requires returns each-distance-reads-requires returns-2)

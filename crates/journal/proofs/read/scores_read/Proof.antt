@@ -19,20 +19,17 @@ abbrev μ-loop : tie.MeasureT-loop
 loop-holds : tie.Need-loop-holds Inv-loop μ-loop
 loop-holds c = (omega arith, any-none _)
 
-mul-float-at : tie.Need-mul-float-at Inv-loop μ-loop
-mul-float-at c = omega arith
+mul-finite-reads : tie.Need-mul-finite-reads Inv-loop μ-loop
+mul-finite-reads c = omega arith
 
-add-float-at : tie.Need-add-float-at Inv-loop μ-loop
-add-float-at c = omega arith
+add-finite-reads : tie.Need-add-finite-reads Inv-loop μ-loop
+add-finite-reads c = omega arith
 
-float-at-requires : tie.Need-float-at-requires Inv-loop μ-loop
-float-at-requires c κs = omega arith
-
-is-finite-requires : tie.Need-is-finite-requires Inv-loop μ-loop
-is-finite-requires c κs = omega arith
+finite-reads-requires : tie.Need-finite-reads-requires Inv-loop μ-loop
+finite-reads-requires c κs = omega arith
 
 returns : tie.Need-returns Inv-loop μ-loop
-returns c = any-stop (c .before .before .before .before .loop .k) _ _ (c .before .before .before .loop-test .taken) (rw (← c .before .before .float-at .ensures) (sym (c .before .is-finite .ensures) ∙ c .if1 .taken))
+returns c = any-stop (c .before .before .before .loop .k) _ _ (c .before .before .loop-test .taken) (sym (c .before .finite-reads .ensures) ∙ c .if1 .taken)
 
 add-k : tie.Need-add-k Inv-loop μ-loop
 add-k c = omega arith
@@ -41,7 +38,7 @@ loop-less : tie.Need-loop-less Inv-loop μ-loop
 loop-less c = omega arith
 
 loop-again : tie.Need-loop-again Inv-loop μ-loop
-loop-again c = (omega arith, any-turn _ _ (c .before .before .before .before .loop .inv .1) (rw (← c .before .before .float-at .ensures) (sym (c .before .is-finite .ensures) ∙ c .if1 .left)))
+loop-again c = (omega arith, any-turn _ _ (c .before .before .before .loop .inv .1) (sym (c .before .finite-reads .ensures) ∙ c .if1 .left))
 
 returns-2 : tie.Need-returns-2 Inv-loop μ-loop
 returns-2 c = any-done _ _ _ (c .before .loop .inv .1) (omega arith)
@@ -53,10 +50,9 @@ scores-read-spec =
     Inv-loop
     μ-loop
     loop-holds
-    mul-float-at
-    add-float-at
-    float-at-requires
-    is-finite-requires
+    mul-finite-reads
+    add-finite-reads
+    finite-reads-requires
     returns
     add-k
     loop-less
