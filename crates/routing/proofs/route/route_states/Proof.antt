@@ -40,9 +40,9 @@ same-length c = search needs
 
 returns : tie.Need-returns
 returns c = (
-      listing-between _ _ _ _ _ (sym (c .before .before .before .before .before .before .before .before .before .before .before .before .before .known-side .ensures) ∙ c .before .before .before .before .before .before .before .before .before .before .before .before .if1 .taken) (sym (c .before .before .before .before .before .before .before .before .before .before .before .known-side2 .ensures) ∙ c .before .before .before .before .before .before .before .before .before .before .if2 .taken) (c .before .before .before .before .before .before .before .node-of .ensures ∙ ap₂ node (c .before .before .before .before .before .before .before .before .before .wide .ensures .0) (c .before .before .before .before .before .before .before .before .wide2 .ensures .0)) (c .before .before .before .before .node-of2 .ensures ∙ ap₂ node (c .before .before .before .before .before .before .wide3 .ensures .0) (c .before .before .before .before .before .wide4 .ensures .0)) _ _ (c .before .before .states-between .ensures .0),
-      stored-between _ _ _ _ _ (sym (c .before .before .before .before .before .before .before .before .before .before .before .before .before .known-side .ensures) ∙ c .before .before .before .before .before .before .before .before .before .before .before .before .if1 .taken) (sym (c .before .before .before .before .before .before .before .before .before .before .before .known-side2 .ensures) ∙ c .before .before .before .before .before .before .before .before .before .before .if2 .taken) (c .before .before .before .before .before .before .before .node-of .ensures ∙ ap₂ node (c .before .before .before .before .before .before .before .before .before .wide .ensures .0) (c .before .before .before .before .before .before .before .before .wide2 .ensures .0)) (c .before .before .before .before .node-of2 .ensures ∙ ap₂ node (c .before .before .before .before .before .before .wide3 .ensures .0) (c .before .before .before .before .before .wide4 .ensures .0)) 0 _ _ (c .before .before .states-between .ensures .1),
-    )
+  listing-between _ _ _ _ _ (sym (c .before .before .before .before .before .before .before .before .before .before .before .before .before .known-side .ensures) ∙ c .before .before .before .before .before .before .before .before .before .before .before .before .if1 .taken) (sym (c .before .before .before .before .before .before .before .before .before .before .before .known-side2 .ensures) ∙ c .before .before .before .before .before .before .before .before .before .before .if2 .taken) (c .before .before .before .before .before .before .before .node-of .ensures ∙ ap₂ node (c .before .before .before .before .before .before .before .before .before .wide .ensures .0) (c .before .before .before .before .before .before .before .before .wide2 .ensures .0)) (c .before .before .before .before .node-of2 .ensures ∙ ap₂ node (c .before .before .before .before .before .before .wide3 .ensures .0) (c .before .before .before .before .before .wide4 .ensures .0)) _ _ (c .before .before .states-between .ensures .0),
+  stored-between _ _ _ _ _ (sym (c .before .before .before .before .before .before .before .before .before .before .before .before .before .known-side .ensures) ∙ c .before .before .before .before .before .before .before .before .before .before .before .before .if1 .taken) (sym (c .before .before .before .before .before .before .before .before .before .before .before .known-side2 .ensures) ∙ c .before .before .before .before .before .before .before .before .before .before .if2 .taken) (c .before .before .before .before .before .before .before .node-of .ensures ∙ ap₂ node (c .before .before .before .before .before .before .before .before .before .wide .ensures .0) (c .before .before .before .before .before .before .before .before .wide2 .ensures .0)) (c .before .before .before .before .node-of2 .ensures ∙ ap₂ node (c .before .before .before .before .before .before .wide3 .ensures .0) (c .before .before .before .before .before .wide4 .ensures .0)) 0 _ _ (c .before .before .states-between .ensures .1),
+)
 
 returns-2 : tie.Need-returns-2
 unfolding stored

@@ -57,9 +57,9 @@ same-length c = search needs
 
 returns : tie.Need-returns
 returns c = let start = c .before .before .before .before .before .before .before .before .before .before .before .before .before .before .before .before .before .before .before .before .before .before .before .before .before in (
-      found-listing _ (start .args .start) (start .args .goal) (c .before .before .before .before .before .before .before .before .before .before .search-between .ensures .0) (c .before .before .before .before .before .before .before .before .before .before .search-between .ensures .1) _ (c .before .before .before .before .before .before .end .given .1) _ _ (c .before .before .list-back .ensures .0),
-      found-stored _ (start .args .start) (start .args .goal) (c .before .before .before .before .before .before .before .before .before .before .search-between .ensures .0) (c .before .before .before .before .before .before .before .before .before .before .search-between .ensures .1) _ (c .before .before .before .before .before .before .end .given .1) 0 _ _ (c .before .before .list-back .ensures .1),
-    )
+  found-listing _ (start .args .start) (start .args .goal) (c .before .before .before .before .before .before .before .before .before .before .search-between .ensures .0) (c .before .before .before .before .before .before .before .before .before .before .search-between .ensures .1) _ (c .before .before .before .before .before .before .end .given .1) _ _ (c .before .before .list-back .ensures .0),
+  found-stored _ (start .args .start) (start .args .goal) (c .before .before .before .before .before .before .before .before .before .before .search-between .ensures .0) (c .before .before .before .before .before .before .before .before .before .before .search-between .ensures .1) _ (c .before .before .before .before .before .before .end .given .1) 0 _ _ (c .before .before .list-back .ensures .1),
+)
 
 returns-2 : tie.Need-returns-2
 unfolding stored
