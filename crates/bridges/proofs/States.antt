@@ -1,4 +1,4 @@
--- The states of a route: none without a route, at most four per element, and each one of the network, or below 4,096. Assumes nothing.
+-- The states of a route: none without a route, at most four per element, each below 4,096, and in an accepted network each one of its own. Assumes nothing.
 use mathlib.Core.Path.{_≡_, refl}
 use mathlib.Core.Bool.{Bool, true, false, cond, _&&_}
 use mathlib.Core.List.{List, [], _∷_, reverseAux}
@@ -102,7 +102,7 @@ module _ (g : Graph) (sound : Sound g) where
       go true = end-below _ _ _ _ (searched-within g sound (node element side) (node element′ side′)) (searched-preds g sound (node element side) (node element′ side′))
       go false = tt
 
--- ---- each one of the network
+-- ---- each one of an accepted network
 
 module _ (net : Network) (accepted : checked net ≡ Accepted) where
   abbrev Inside : ℕ → Type 0

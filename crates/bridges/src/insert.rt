@@ -83,7 +83,7 @@ fn trace_intermediate_netelements(
     }
 }
 
-// The elements between two of a network that was checked, along the cheapest of the routes between their sides.
+// The elements between two in a network that was checked, along the cheapest of the routes between their sides. One index serves its three searches.
 fn bridges_between(
     lengths: &[f64],
     from: &[u32],
