@@ -9,19 +9,25 @@ use lib.Ieee.{Float, lt, ofBits}
 use Rattle.journal.specs.WellFormed.{Each}
 use Rattle.routing.specs.declared.network.Checked.{Checked}
 use Rattle.routing.specs.declared.network.Checked.the-variants.{Accepted, Refused}
-use Rattle.routing.specs.Network.{Network, count, checked}
-use Rattle.routing.specs.Route.{routeStates}
+use Rattle.routing.specs.Network.{Network, Graph, count, checked}
+use Rattle.routing.specs.Sound.{Sound}
+use Rattle.routing.specs.Route.{route, routeStates}
 use Rattle.routing.proofs.Accepted.{accepted-sound}
+use Rattle.transition.specs.Routes.{routesBy}
 use Rattle.transition.specs.Pair.{billionth}
 use Rattle.transition.proofs.Cases.{billionth-bits}
 use Rattle.bridges.specs.declared.sides.Cheapest.{Cheapest}
 use Rattle.bridges.specs.declared.sides.Cheapest.the-variants.{Nothing, Sides}
 use Rattle.bridges.specs.declared.insert.Bridges.{Bridges}
-use Rattle.bridges.specs.Bridges.{traced, betweenSides, between}
+use Rattle.bridges.specs.Bridges.{cheapestOf, traced, betweenSides, between}
 use Rattle.bridges.specs.Found.{bridgesOf}
-use Rattle.bridges.proofs.Cheapest.{sidesOf, sides-refused}
+use Rattle.bridges.proofs.Cheapest.{sidesOf, sides-accepted, sides-refused}
 use Rattle.bridges.proofs.Traced.{Bridge, traced-each, traced-few}
-use Rattle.bridges.proofs.States.{states-inside}
+use Rattle.bridges.proofs.States.{states-below, states-inside}
+
+-- the elements along a route
+pub route-short : (g : Graph) → Sound g → (previous side next side′ : ℕ) → length (traced previous next [] (routeStates g previous side next side′)) ≤ 1024
+route-short g sound previous side next side′ = traced-few previous next 1024 (routeStates g previous side next side′) (states-below g sound previous side next side′)
 
 module _ (net : Network) (previous next : ℕ) where
   -- ---- what they are
@@ -36,11 +42,9 @@ module _ (net : Network) (previous next : ℕ) where
 
   along : checked net ≡ Accepted → (side side′ : ℕ) → Bridged (traced previous next [] (routeStates (net .graph) previous side next side′))
   along accepted side side′ =
-      let states = routeStates (net .graph) previous side next side′ in
-      let inside = states-inside net accepted previous side next side′ in
       record {
-        short = omega (arith, traced-few previous next (count (net .graph)) states inside, accepted-sound net accepted .few);
-        each = traced-each previous next (count (net .graph)) states inside;
+        short = route-short (net .graph) (accepted-sound net accepted) previous side next side′;
+        each = traced-each previous next (count (net .graph)) (routeStates (net .graph) previous side next side′) (states-inside net accepted previous side next side′);
       }
 
   by-sides : checked net ≡ Accepted → (best : Cheapest) → Bridged (betweenSides (net .graph) previous next best)
@@ -63,21 +67,30 @@ module _ (net : Network) (previous next : ℕ) where
   pub between-each : Each (Bridge previous next (count (net .graph))) (between net previous next)
   between-each = by-checks (checked net) refl .each
 
-  pub route-short : checked net ≡ Accepted → (side side′ : ℕ) → length (traced previous next [] (routeStates (net .graph) previous side next side′)) ≤ 1024
-  route-short accepted side side′ = along accepted side side′ .short
+  -- ---- what inserting them returns, by what the checks say
 
-  -- ---- what inserting them returns
+  module _ {a : Checked} (told : a ≡ checked net) {r : Bridges} where
+    pub insert-accepted : a ≡ Accepted → r ≡ bridgesOf (betweenSides (net .graph) previous next (cheapestOf (routesBy (λ side side′. route (net .graph) previous side next side′)))) →
+        r ≡ bridgesOf (between net previous next)
+    unfolding between
+    insert-accepted e h = rw (sides-accepted net previous next (sym told ∙ e)) h
 
-  module _ {best : Cheapest} (told : best ≡ sidesOf net previous next) {r : Bridges} where
-    pub insert-none : best ≡ Nothing → r ≡ bridgesOf [] → r ≡ bridgesOf (between net previous next)
+    pub insert-refused : (k : ℕ) → a ≡ Refused k → r ≡ bridgesOf [] → r ≡ bridgesOf (between net previous next)
     unfolding between betweenSides
-    insert-none e h = rw (sym told ∙ e) h
+    insert-refused k e h = rw (sides-refused net previous next k (sym told ∙ e)) h
 
-    module _ (cost : Float) (side side′ : ℕ) (found : best ≡ Sides cost side side′) where
-      pub insert-near : lt cost billionth-bits ≡ true → r ≡ bridgesOf [] → r ≡ bridgesOf (between net previous next)
-      unfolding between betweenSides ofBits
-      insert-near e h = rw (sym told ∙ found, e) h
+-- ---- what the cheapest side pair gives
 
-      pub insert-far : lt cost billionth-bits ≡ false → r ≡ bridgesOf (traced previous next [] (routeStates (net .graph) previous side next side′)) → r ≡ bridgesOf (between net previous next)
-      unfolding between betweenSides ofBits
-      insert-far e h = rw (sym told ∙ found, e) h
+module _ (g : Graph) (previous next : ℕ) {best sides : Cheapest} (told : best ≡ sides) {r : Bridges} where
+  pub between-none : best ≡ Nothing → r ≡ bridgesOf [] → r ≡ bridgesOf (betweenSides g previous next sides)
+  unfolding betweenSides
+  between-none e h = rw (sym told ∙ e) h
+
+  module _ (cost : Float) (side side′ : ℕ) (found : best ≡ Sides cost side side′) where
+    pub between-near : lt cost billionth-bits ≡ true → r ≡ bridgesOf [] → r ≡ bridgesOf (betweenSides g previous next sides)
+    unfolding betweenSides ofBits
+    between-near e h = rw (sym told ∙ found, e) h
+
+    pub between-far : lt cost billionth-bits ≡ false → r ≡ bridgesOf (traced previous next [] (routeStates g previous side next side′)) → r ≡ bridgesOf (betweenSides g previous next sides)
+    unfolding betweenSides ofBits
+    between-far e h = rw (sym told ∙ found, e) h

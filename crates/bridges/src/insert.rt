@@ -4,15 +4,23 @@ use crate::sides::cheapest_sides;
 use crate::trace::elements_of;
 use crate::trace::no_elements;
 use crate::trace::no_states;
+use routing::index::index_links;
+use routing::index::no_heads;
+use routing::index::no_nexts;
 use routing::network::Checked;
+use routing::network::check_network;
 use routing::route::Listing;
-use routing::route::shortest_path_route;
-use transition::routes::routes_between;
+use routing::route::route_states;
+use transition::routes::element_routes;
 ghost use mathlib.Core.Path.{_≡_};
 ghost use mathlib.Core.List.{[]};
-ghost use Rattle.routing.specs.Network.{graphOf, networkOf, checked};
-ghost use Rattle.routing.specs.Route.{routeStates};
-ghost use Rattle.bridges.specs.Bridges.{traced, between};
+ghost use lib.ListN.{length};
+ghost use Rattle.routing.specs.Network.{graphOf, relationsOf, networkOf};
+ghost use Rattle.routing.specs.Sound.{Sound};
+ghost use Rattle.routing.specs.Index.{Indexed};
+ghost use Rattle.routing.specs.Route.{route, routeStates};
+ghost use Rattle.transition.specs.Routes.{routesBy};
+ghost use Rattle.bridges.specs.Bridges.{cheapestOf, traced, betweenSides, between};
 ghost use Rattle.bridges.specs.Found.{bridgesOf};
 
 // The elements between two: the first `count` entries. The entries past them are 0.
@@ -30,37 +38,38 @@ pub fn no_bridges() -> Bridges
     }
 }
 
-// The other elements along the cheapest route from a side of one element to a side of another, in a network that was checked. Its routes have at most
-// 4,096 states, so listing one is never refused.
+// The other elements along the cheapest route from a side of one element to a side of another, in a network that was checked; `heads` and `nexts` are
+// its index. Its routes have at most 4,096 states, so listing one is never refused.
 fn trace_intermediate_netelements(
     lengths: &[f64],
-    headings: &[f64],
-    flags: &[u32],
     from: &[u32],
     to: &[u32],
     from_side: &[u32],
     to_side: &[u32],
     forward: &[u32],
     backward: &[u32],
+    heads: &[u16],
+    nexts: &[u16],
     previous: u32,
     leaving: u32,
     next: u32,
     entering: u32,
 ) -> Bridges
-    requires { ⌜ checked (networkOf (now lengths) (now headings) (now flags) (now from) (now to) (now «from_side») (now «to_side») (now forward) (now backward)) ≡ Checked.Accepted ⌝ }
+    requires { ⌜ Sound (graphOf (now lengths) (now from) (now to) (now «from_side») (now «to_side») (now forward) (now backward)) ⌝ }
+    requires { ⌜ Indexed (length (now lengths)) (relationsOf (now from) (now to) (now «from_side») (now «to_side») (now forward) (now backward)) 0 (now heads) (now nexts) ⌝ }
     ensures { λ r. ⌜ r ≡ bridgesOf (traced previous next [] (routeStates (graphOf (now (lengths .entry)) (now (from .entry)) (now (to .entry)) (now («from_side» .entry)) (now («to_side» .entry)) (now (forward .entry)) (now (backward .entry))) previous leaving next entering)) ⌝ }
 {
     let mut states = no_states();
-    let listing = shortest_path_route(
+    let listing = route_states(
         lengths,
-        headings,
-        flags,
         from,
         to,
         from_side,
         to_side,
         forward,
         backward,
+        heads,
+        nexts,
         previous,
         leaving,
         next,
@@ -71,6 +80,73 @@ fn trace_intermediate_netelements(
         Listing::Listed(_, n) => elements_of(&states, n, previous, next),
         Listing::NoRoute => no_bridges(),
         Listing::Refused(_) => no_bridges(),
+    }
+}
+
+// The elements between two in a network that was checked, along the cheapest of the routes between their sides. One index serves its three searches.
+fn bridges_between(
+    lengths: &[f64],
+    from: &[u32],
+    to: &[u32],
+    from_side: &[u32],
+    to_side: &[u32],
+    forward: &[u32],
+    backward: &[u32],
+    previous: u32,
+    next: u32,
+) -> Bridges
+    requires { ⌜ Sound (graphOf (now lengths) (now from) (now to) (now «from_side») (now «to_side») (now forward) (now backward)) ⌝ }
+    ensures { λ r. ⌜ r ≡ bridgesOf (betweenSides (graphOf (now (lengths .entry)) (now (from .entry)) (now (to .entry)) (now («from_side» .entry)) (now («to_side» .entry)) (now (forward .entry)) (now (backward .entry))) previous next (cheapestOf (routesBy (λ side side′. route (graphOf (now (lengths .entry)) (now (from .entry)) (now (to .entry)) (now («from_side» .entry)) (now («to_side» .entry)) (now (forward .entry)) (now (backward .entry))) previous side next side′)))) ⌝ }
+{
+    let mut heads = no_heads();
+    let mut nexts = no_nexts();
+    index_links(
+        lengths,
+        from,
+        to,
+        from_side,
+        to_side,
+        forward,
+        backward,
+        &mut heads,
+        &mut nexts,
+    );
+    let routes = element_routes(
+        lengths,
+        from,
+        to,
+        from_side,
+        to_side,
+        forward,
+        backward,
+        &heads,
+        &nexts,
+        previous,
+        next,
+    );
+    let best = cheapest_sides(routes);
+    match best {
+        Cheapest::Sides(cost, leaving, entering) => {
+            if cost < 1e-9 {
+                return no_bridges();
+            }
+            trace_intermediate_netelements(
+                lengths,
+                from,
+                to,
+                from_side,
+                to_side,
+                forward,
+                backward,
+                &heads,
+                &nexts,
+                previous,
+                leaving,
+                next,
+                entering,
+            )
+        }
+        Cheapest::Nothing => no_bridges(),
     }
 }
 
@@ -91,7 +167,7 @@ pub fn insert_bridges(
 ) -> Bridges
     ensures { λ r. ⌜ r ≡ bridgesOf (between (networkOf (now (lengths .entry)) (now (headings .entry)) (now (flags .entry)) (now (from .entry)) (now (to .entry)) (now («from_side» .entry)) (now («to_side» .entry)) (now (forward .entry)) (now (backward .entry))) previous next) ⌝ }
 {
-    let routes = routes_between(
+    let answer = check_network(
         lengths,
         headings,
         flags,
@@ -101,31 +177,19 @@ pub fn insert_bridges(
         to_side,
         forward,
         backward,
-        previous,
-        next,
     );
-    let best = cheapest_sides(routes);
-    match best {
-        Cheapest::Sides(cost, leaving, entering) => {
-            if cost < 1e-9 {
-                return no_bridges();
-            }
-            trace_intermediate_netelements(
-                lengths,
-                headings,
-                flags,
-                from,
-                to,
-                from_side,
-                to_side,
-                forward,
-                backward,
-                previous,
-                leaving,
-                next,
-                entering,
-            )
-        }
-        Cheapest::Nothing => no_bridges(),
+    match answer {
+        Checked::Accepted => bridges_between(
+            lengths,
+            from,
+            to,
+            from_side,
+            to_side,
+            forward,
+            backward,
+            previous,
+            next,
+        ),
+        Checked::Refused(_) => no_bridges(),
     }
 }

@@ -1,4 +1,7 @@
-// The cheapest route between two sides of the network: its cost, and its states.
+// The cheapest route between two sides of the network: its cost, and its states. `heads` and `nexts` are the network's index.
+use crate::index::index_links;
+use crate::index::no_heads;
+use crate::index::no_nexts;
 use crate::link::node_of;
 use crate::link::wide;
 use crate::network::Checked;
@@ -11,8 +14,9 @@ ghost use mathlib.Core.Path.{_≡_};
 ghost use mathlib.Core.List.{_++_, reverse};
 ghost use Prim.Native.Nat.{ℕ, _*_, _<_, _≤_};
 ghost use lib.ListN.{length, getD, drop};
-ghost use Rattle.routing.specs.Network.{graphOf, networkOf};
+ghost use Rattle.routing.specs.Network.{graphOf, relationsOf, networkOf};
 ghost use Rattle.routing.specs.Sound.{Sound};
+ghost use Rattle.routing.specs.Index.{Indexed};
 ghost use Rattle.routing.specs.Search.{searched};
 ghost use Rattle.routing.specs.Route.{knownSide, costOfEnd, route, stepsBack, back, listingOf, statesOfEnd, routeStates, distanceOf, listing, stored};
 
@@ -52,10 +56,13 @@ fn distance_between(
     to_side: &[u32],
     forward: &[u32],
     backward: &[u32],
+    heads: &[u16],
+    nexts: &[u16],
     start: usize,
     goal: usize,
 ) -> Route
     requires { ⌜ Sound (graphOf (now lengths) (now from) (now to) (now «from_side») (now «to_side») (now forward) (now backward)) ⌝ }
+    requires { ⌜ Indexed (length (now lengths)) (relationsOf (now from) (now to) (now «from_side») (now «to_side») (now forward) (now backward)) 0 (now heads) (now nexts) ⌝ }
     requires { ⌜ start < 2 * length (now lengths) ⌝ }
     ensures { λ r. ⌜ r ≡ costOfEnd (searched (graphOf (now (lengths .entry)) (now (from .entry)) (now (to .entry)) (now («from_side» .entry)) (now («to_side» .entry)) (now (forward .entry)) (now (backward .entry))) start goal) ⌝ }
 {
@@ -71,6 +78,8 @@ fn distance_between(
         to_side,
         forward,
         backward,
+        heads,
+        nexts,
         start,
         goal,
     );
@@ -80,7 +89,7 @@ fn distance_between(
     }
 }
 
-// The cost of the cheapest route between two sides of a network that was checked.
+// The cost of the cheapest route between two sides of a network that was checked and indexed.
 fn route_cost(
     lengths: &[f64],
     from: &[u32],
@@ -89,12 +98,15 @@ fn route_cost(
     to_side: &[u32],
     forward: &[u32],
     backward: &[u32],
+    heads: &[u16],
+    nexts: &[u16],
     start_element: u32,
     start_side: u32,
     goal_element: u32,
     goal_side: u32,
 ) -> Route
     requires { ⌜ Sound (graphOf (now lengths) (now from) (now to) (now «from_side») (now «to_side») (now forward) (now backward)) ⌝ }
+    requires { ⌜ Indexed (length (now lengths)) (relationsOf (now from) (now to) (now «from_side») (now «to_side») (now forward) (now backward)) 0 (now heads) (now nexts) ⌝ }
     ensures { λ r. ⌜ r ≡ route (graphOf (now (lengths .entry)) (now (from .entry)) (now (to .entry)) (now («from_side» .entry)) (now («to_side» .entry)) (now (forward .entry)) (now (backward .entry))) «start_element» «start_side» «goal_element» «goal_side» ⌝ }
 {
     if known_side(lengths.len(), start_element, start_side) {
@@ -109,6 +121,8 @@ fn route_cost(
                 to_side,
                 forward,
                 backward,
+                heads,
+                nexts,
                 start,
                 goal,
             );
@@ -147,19 +161,36 @@ pub fn shortest_path_distance(
         backward,
     );
     match answer {
-        Checked::Accepted => Distance::Known(route_cost(
-            lengths,
-            from,
-            to,
-            from_side,
-            to_side,
-            forward,
-            backward,
-            start_element,
-            start_side,
-            goal_element,
-            goal_side,
-        )),
+        Checked::Accepted => {
+            let mut heads = no_heads();
+            let mut nexts = no_nexts();
+            index_links(
+                lengths,
+                from,
+                to,
+                from_side,
+                to_side,
+                forward,
+                backward,
+                &mut heads,
+                &mut nexts,
+            );
+            Distance::Known(route_cost(
+                lengths,
+                from,
+                to,
+                from_side,
+                to_side,
+                forward,
+                backward,
+                &heads,
+                &nexts,
+                start_element,
+                start_side,
+                goal_element,
+                goal_side,
+            ))
+        }
         Checked::Refused(k) => Distance::Refused(k),
     }
 }
@@ -227,11 +258,14 @@ fn states_between(
     to_side: &[u32],
     forward: &[u32],
     backward: &[u32],
+    heads: &[u16],
+    nexts: &[u16],
     start: usize,
     goal: usize,
     states: &mut [u32],
 ) -> Listing
     requires { ⌜ Sound (graphOf (now lengths) (now from) (now to) (now «from_side») (now «to_side») (now forward) (now backward)) ⌝ }
+    requires { ⌜ Indexed (length (now lengths)) (relationsOf (now from) (now to) (now «from_side») (now «to_side») (now forward) (now backward)) 0 (now heads) (now nexts) ⌝ }
     requires { ⌜ start < 2 * length (now lengths) ⌝ }
     ensures { λ r. ⌜ r ≡ listingOf (costOfEnd (searched (graphOf (now (lengths .entry)) (now (from .entry)) (now (to .entry)) (now («from_side» .entry)) (now («to_side» .entry)) (now (forward .entry)) (now (backward .entry))) start goal)) (length (statesOfEnd (2 * start) (4 * length (now (lengths .entry))) (searched (graphOf (now (lengths .entry)) (now (from .entry)) (now (to .entry)) (now («from_side» .entry)) (now («to_side» .entry)) (now (forward .entry)) (now (backward .entry))) start goal))) (length (now (states .entry))) ⌝ }
     ensures { λ r. ⌜ now (states .exit) ≡ stored r (statesOfEnd (2 * start) (4 * length (now (lengths .entry))) (searched (graphOf (now (lengths .entry)) (now (from .entry)) (now (to .entry)) (now («from_side» .entry)) (now («to_side» .entry)) (now (forward .entry)) (now (backward .entry))) start goal)) (now (states .entry)) ⌝ }
@@ -248,6 +282,8 @@ fn states_between(
         to_side,
         forward,
         backward,
+        heads,
+        nexts,
         start,
         goal,
     );
@@ -257,8 +293,8 @@ fn states_between(
     }
 }
 
-// The states of the cheapest route between two sides of a network that was checked.
-fn route_states(
+// The states of the cheapest route between two sides of a network that was checked and indexed, as `shortest_path_route` lists them.
+pub fn route_states(
     lengths: &[f64],
     from: &[u32],
     to: &[u32],
@@ -266,6 +302,8 @@ fn route_states(
     to_side: &[u32],
     forward: &[u32],
     backward: &[u32],
+    heads: &[u16],
+    nexts: &[u16],
     start_element: u32,
     start_side: u32,
     goal_element: u32,
@@ -273,6 +311,7 @@ fn route_states(
     states: &mut [u32],
 ) -> Listing
     requires { ⌜ Sound (graphOf (now lengths) (now from) (now to) (now «from_side») (now «to_side») (now forward) (now backward)) ⌝ }
+    requires { ⌜ Indexed (length (now lengths)) (relationsOf (now from) (now to) (now «from_side») (now «to_side») (now forward) (now backward)) 0 (now heads) (now nexts) ⌝ }
     ensures { λ r. ⌜ r ≡ listingOf (route (graphOf (now (lengths .entry)) (now (from .entry)) (now (to .entry)) (now («from_side» .entry)) (now («to_side» .entry)) (now (forward .entry)) (now (backward .entry))) «start_element» «start_side» «goal_element» «goal_side») (length (routeStates (graphOf (now (lengths .entry)) (now (from .entry)) (now (to .entry)) (now («from_side» .entry)) (now («to_side» .entry)) (now (forward .entry)) (now (backward .entry))) «start_element» «start_side» «goal_element» «goal_side»)) (length (now (states .entry))) ⌝ }
     ensures { λ r. ⌜ now (states .exit) ≡ stored r (routeStates (graphOf (now (lengths .entry)) (now (from .entry)) (now (to .entry)) (now («from_side» .entry)) (now («to_side» .entry)) (now (forward .entry)) (now (backward .entry))) «start_element» «start_side» «goal_element» «goal_side») (now (states .entry)) ⌝ }
 {
@@ -288,6 +327,8 @@ fn route_states(
                 to_side,
                 forward,
                 backward,
+                heads,
+                nexts,
                 start,
                 goal,
                 states,
@@ -330,20 +371,37 @@ pub fn shortest_path_route(
         backward,
     );
     match answer {
-        Checked::Accepted => route_states(
-            lengths,
-            from,
-            to,
-            from_side,
-            to_side,
-            forward,
-            backward,
-            start_element,
-            start_side,
-            goal_element,
-            goal_side,
-            states,
-        ),
+        Checked::Accepted => {
+            let mut heads = no_heads();
+            let mut nexts = no_nexts();
+            index_links(
+                lengths,
+                from,
+                to,
+                from_side,
+                to_side,
+                forward,
+                backward,
+                &mut heads,
+                &mut nexts,
+            );
+            route_states(
+                lengths,
+                from,
+                to,
+                from_side,
+                to_side,
+                forward,
+                backward,
+                &heads,
+                &nexts,
+                start_element,
+                start_side,
+                goal_element,
+                goal_side,
+                states,
+            )
+        }
         Checked::Refused(k) => Listing::Refused(k),
     }
 }

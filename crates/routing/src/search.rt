@@ -2,9 +2,6 @@
 use crate::blocks::lower_leaders;
 use crate::blocks::mark_state;
 use crate::blocks::no_blocks;
-use crate::index::index_links;
-use crate::index::no_heads;
-use crate::index::no_nexts;
 use crate::link::link_at;
 use crate::link::link_number;
 use binary64::infinity;
@@ -273,7 +270,8 @@ fn find(
     }
 }
 
-// The search between two nodes, over tables in which no state is reached: the state of the goal at which it ends.
+// The search between two nodes, over tables in which no state is reached: the state of the goal at which it ends. `heads` and `nexts` are the
+// network's index.
 pub fn search_between(
     costs: &mut [f64],
     preds: &mut [u32],
@@ -284,10 +282,13 @@ pub fn search_between(
     to_side: &[u32],
     forward: &[u32],
     backward: &[u32],
+    heads: &[u16],
+    nexts: &[u16],
     start: usize,
     goal: usize,
 ) -> Pick
     requires { ⌜ Sound (graphOf (now lengths) (now from) (now to) (now «from_side») (now «to_side») (now forward) (now backward)) ⌝ }
+    requires { ⌜ Indexed (length (now lengths)) (relationsOf (now from) (now to) (now «from_side») (now «to_side») (now forward) (now backward)) 0 (now heads) (now nexts) ⌝ }
     requires { ⌜ start < 2 * length (now lengths) ⌝ }
     requires { ⌜ (now costs ≡ noCosts) × (now preds ≡ noPreds) ⌝ }
     ensures { λ r. ⌜ r ≡ searched (graphOf (now (lengths .entry)) (now (from .entry)) (now (to .entry)) (now («from_side» .entry)) (now («to_side» .entry)) (now (forward .entry)) (now (backward .entry))) start goal .pick ⌝ }
@@ -295,19 +296,6 @@ pub fn search_between(
 {
     let mut marks = no_marks();
     let mut blocks = no_blocks();
-    let mut heads = no_heads();
-    let mut nexts = no_nexts();
-    index_links(
-        lengths,
-        from,
-        to,
-        from_side,
-        to_side,
-        forward,
-        backward,
-        &mut heads,
-        &mut nexts,
-    );
     costs[2 * start] = 0.0;
     lower_leaders(costs, &marks, &mut blocks, 2 * start);
     find(
@@ -322,8 +310,8 @@ pub fn search_between(
         to_side,
         forward,
         backward,
-        &heads,
-        &nexts,
+        heads,
+        nexts,
         goal,
     )
 }

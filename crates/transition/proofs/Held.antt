@@ -1,7 +1,7 @@
 -- Routes in one table: row after row is filled. Assumes nothing.
 use mathlib.Core.Path.{_≡_, refl, ap, subst, _∙_}
 use mathlib.Core.Bool.{false}
-use mathlib.Core.List.{List, _++_}
+use mathlib.Core.List.{List, [], _∷_, _++_}
 use mathlib.Core.Logic.{⊎-elim}
 use Prim.Native.Nat.{ℕ, suc, _+_, _-_, _*_, _<_, _≤_}
 use native.Mathlib.Nat.{not-suc-le-zero, eq-or-lt-of-le, mul-le-mul-right, suc-mul}
@@ -9,7 +9,8 @@ use native.Mathlib.Omega.{arith}
 use lib.ListN.{length, getD, take, drop, length-drop, length-replicate, List·getD-append}
 use lib.Seq.{length-take-le, getD-take, getD-append-add}
 use lib.Ieee.{Float, nan, inf}
-use borrow.Author.Tests.{lt-ltb}
+use borrow.Author.Tests.{lt-ltb, le-ltb}
+use Rattle.routing.specs.declared.route.Route.the-variants.{Unreachable}
 use Rattle.routing.specs.Network.{Graph, count}
 use Rattle.routing.specs.Walks.{node}
 use Rattle.routing.specs.Search.{searched}
@@ -108,3 +109,19 @@ module _ (g : Graph) (e e′ : ℕ) (known : e < count g) (known′ : e′ < cou
         let r10 = entry-route (2 * j + 1) (2 * i) 1 0 (omega arith) (omega arith) (omega arith) (omega arith) p₁ q₀ in
         let r11 = entry-route (2 * j + 1) (2 * i + 1) 1 1 (omega arith) (omega arith) (omega arith) (omega arith) p₁ q₁ in
         rw (r00, r01, r10, r11)
+
+  -- a table of the two elements' own nodes
+  pub element-held : {found : List Float} → RoutesHeld g (2 * e ∷ (2 * e + 1) ∷ []) (2 * e′ ∷ (2 * e′ + 1) ∷ []) 2 found →
+      routesAt found 2 0 0 ≡ routesBy (λ side side′. route g e side e′ side′)
+  unfolding node
+  element-held held = routes-held held 0 0 (omega arith) (omega arith) (omega arith) refl (omega arith) refl
+
+-- an element that the network lacks
+module _ (g : Graph) (e e′ : ℕ) where
+  pub start-unknown : count g ≤ e → routesBy (λ side side′. Unreachable) ≡ routesBy (λ side side′. route g e side e′ side′)
+  unfolding routesBy route knownSide
+  start-unknown h = rw (le-ltb e (count g) h)
+
+  pub goal-unknown : e < count g → count g ≤ e′ → routesBy (λ side side′. Unreachable) ≡ routesBy (λ side side′. route g e side e′ side′)
+  unfolding routesBy route knownSide
+  goal-unknown h h′ = rw (lt-ltb e (count g) h, le-ltb e′ (count g) h′)

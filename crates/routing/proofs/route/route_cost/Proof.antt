@@ -1,6 +1,6 @@
 -- `routing::route::route_cost` meets its contract. Assumes nothing.
-use mathlib.Core.Path.{sym, ap₂, _∙_}
 use borrow.Author.Needs.{needs}
+use mathlib.Core.Path.{sym, ap₂, _∙_}
 use Rattle.routing.specs.Walks.{node}
 use Rattle.routing.proofs.Routes.{known-node, route-between, route-unknown-start, route-unknown-goal}
 use Rattle.routing.proofs.route.route_cost.Statement.{statement}
@@ -31,7 +31,8 @@ node-of-requires-2 : tie.Need-node-of-requires-2
 node-of-requires-2 c κs = search needs
 
 distance-between-requires : tie.Need-distance-between-requires
-distance-between-requires c κs = (c .before .before .before .before .before .before .before .before .before .before .before .before .before .before .before .before .before .pre, rw (c .before .before .before .node-of .ensures ∙ ap₂ node (c .before .before .before .before .before .wide .ensures .0) (c .before .before .before .before .wide2 .ensures .0)) (known-node _ _ _ (sym (c .before .before .before .before .before .before .before .before .before .known-side .ensures) ∙ c .before .before .before .before .before .before .before .before .if1 .taken)))
+distance-between-requires c κs = let start = c .before .before .before .before .before .before .before .before .before .before .before .before .before .before .before .before .before .before .before in
+    (start .pre .0, (start .pre .1, rw (c .before .before .before .node-of .ensures ∙ ap₂ node (c .before .before .before .before .before .wide .ensures .0) (c .before .before .before .before .wide2 .ensures .0)) (known-node _ _ _ (sym (c .before .before .before .before .before .before .before .before .before .known-side .ensures) ∙ c .before .before .before .before .before .before .before .before .if1 .taken))))
 
 returns : tie.Need-returns
 returns c = c .distance-between .ensures ∙ route-between _ _ _ _ _ (sym (c .before .before .before .before .before .before .before .before .before .before .known-side .ensures) ∙ c .before .before .before .before .before .before .before .before .before .if1 .taken) (sym (c .before .before .before .before .before .before .before .before .known-side2 .ensures) ∙ c .before .before .before .before .before .before .before .if2 .taken) (c .before .before .before .before .node-of .ensures ∙ ap₂ node (c .before .before .before .before .before .before .wide .ensures .0) (c .before .before .before .before .before .wide2 .ensures .0)) (c .before .node-of2 .ensures ∙ ap₂ node (c .before .before .before .wide3 .ensures .0) (c .before .before .wide4 .ensures .0))

@@ -1,6 +1,6 @@
 -- `routing::route::route_states` meets its contract. Assumes nothing.
-use mathlib.Core.Path.{refl, sym, ap₂, _∙_}
 use borrow.Author.Needs.{needs}
+use mathlib.Core.Path.{refl, sym, ap₂, _∙_}
 use Rattle.routing.specs.Walks.{node}
 use Rattle.routing.specs.Route.{stored}
 use Rattle.routing.proofs.Routes.{known-node, listing-between, stored-between, unlisted-start, unlisted-goal}
@@ -32,13 +32,17 @@ node-of-requires-2 : tie.Need-node-of-requires-2
 node-of-requires-2 c κs = search needs
 
 states-between-requires : tie.Need-states-between-requires
-states-between-requires c κs = (c .before .before .before .before .before .before .before .before .before .before .before .before .before .before .before .before .before .before .before .pre, rw (c .before .before .before .before .node-of .ensures ∙ ap₂ node (c .before .before .before .before .before .before .wide .ensures .0) (c .before .before .before .before .before .wide2 .ensures .0)) (known-node _ _ _ (sym (c .before .before .before .before .before .before .before .before .before .before .known-side .ensures) ∙ c .before .before .before .before .before .before .before .before .before .if1 .taken)))
+states-between-requires c κs = let start = c .before .before .before .before .before .before .before .before .before .before .before .before .before .before .before .before .before .before .before .before .before in
+    (start .pre .0, (start .pre .1, rw (c .before .before .before .before .node-of .ensures ∙ ap₂ node (c .before .before .before .before .before .before .wide .ensures .0) (c .before .before .before .before .before .wide2 .ensures .0)) (known-node _ _ _ (sym (c .before .before .before .before .before .before .before .before .before .before .known-side .ensures) ∙ c .before .before .before .before .before .before .before .before .before .if1 .taken))))
 
 same-length : tie.Need-same-length
 same-length c = search needs
 
 returns : tie.Need-returns
-returns c = (listing-between _ _ _ _ _ (sym (c .before .before .before .before .before .before .before .before .before .before .before .before .before .known-side .ensures) ∙ c .before .before .before .before .before .before .before .before .before .before .before .before .if1 .taken) (sym (c .before .before .before .before .before .before .before .before .before .before .before .known-side2 .ensures) ∙ c .before .before .before .before .before .before .before .before .before .before .if2 .taken) (c .before .before .before .before .before .before .before .node-of .ensures ∙ ap₂ node (c .before .before .before .before .before .before .before .before .before .wide .ensures .0) (c .before .before .before .before .before .before .before .before .wide2 .ensures .0)) (c .before .before .before .before .node-of2 .ensures ∙ ap₂ node (c .before .before .before .before .before .before .wide3 .ensures .0) (c .before .before .before .before .before .wide4 .ensures .0)) _ _ (c .before .before .states-between .ensures .0), stored-between _ _ _ _ _ (sym (c .before .before .before .before .before .before .before .before .before .before .before .before .before .known-side .ensures) ∙ c .before .before .before .before .before .before .before .before .before .before .before .before .if1 .taken) (sym (c .before .before .before .before .before .before .before .before .before .before .before .known-side2 .ensures) ∙ c .before .before .before .before .before .before .before .before .before .before .if2 .taken) (c .before .before .before .before .before .before .before .node-of .ensures ∙ ap₂ node (c .before .before .before .before .before .before .before .before .before .wide .ensures .0) (c .before .before .before .before .before .before .before .before .wide2 .ensures .0)) (c .before .before .before .before .node-of2 .ensures ∙ ap₂ node (c .before .before .before .before .before .before .wide3 .ensures .0) (c .before .before .before .before .before .wide4 .ensures .0)) 0 _ _ (c .before .before .states-between .ensures .1))
+returns c = (
+  listing-between _ _ _ _ _ (sym (c .before .before .before .before .before .before .before .before .before .before .before .before .before .known-side .ensures) ∙ c .before .before .before .before .before .before .before .before .before .before .before .before .if1 .taken) (sym (c .before .before .before .before .before .before .before .before .before .before .before .known-side2 .ensures) ∙ c .before .before .before .before .before .before .before .before .before .before .if2 .taken) (c .before .before .before .before .before .before .before .node-of .ensures ∙ ap₂ node (c .before .before .before .before .before .before .before .before .before .wide .ensures .0) (c .before .before .before .before .before .before .before .before .wide2 .ensures .0)) (c .before .before .before .before .node-of2 .ensures ∙ ap₂ node (c .before .before .before .before .before .before .wide3 .ensures .0) (c .before .before .before .before .before .wide4 .ensures .0)) _ _ (c .before .before .states-between .ensures .0),
+  stored-between _ _ _ _ _ (sym (c .before .before .before .before .before .before .before .before .before .before .before .before .before .known-side .ensures) ∙ c .before .before .before .before .before .before .before .before .before .before .before .before .if1 .taken) (sym (c .before .before .before .before .before .before .before .before .before .before .before .known-side2 .ensures) ∙ c .before .before .before .before .before .before .before .before .before .before .if2 .taken) (c .before .before .before .before .before .before .before .node-of .ensures ∙ ap₂ node (c .before .before .before .before .before .before .before .before .before .wide .ensures .0) (c .before .before .before .before .before .before .before .before .wide2 .ensures .0)) (c .before .before .before .before .node-of2 .ensures ∙ ap₂ node (c .before .before .before .before .before .before .wide3 .ensures .0) (c .before .before .before .before .before .wide4 .ensures .0)) 0 _ _ (c .before .before .states-between .ensures .1),
+)
 
 returns-2 : tie.Need-returns-2
 unfolding stored
