@@ -17,6 +17,8 @@ use Rattle.transition.specs.declared.step.Step.{Step}
 use Rattle.transition.specs.declared.step.Step.the-variants.{Impossible}
 use Rattle.rows.specs.Row.{StepScore}
 use Rattle.rows.specs.Scoring.{CandidateStands}
+use Rattle.rows.proofs.Nodes.{table-fits}
+use Rattle.rows.proofs.Through.{pair-held}
 use Rattle.steps.specs.Steps.{pairStep}
 use Rattle.steps.specs.Find.{TwoRecords, PairStands}
 use Rattle.steps.specs.Tables.{PairBelow}
@@ -25,15 +27,16 @@ use Rattle.steps.specs.Tables.{PairBelow}
 pub pair-inside : (c p i j : ℕ) → i < c → j < p → j * c + i < c * p
 pair-inside c p i j h l = omega (arith, mul-le-mul-right c l, suc-mul j c, mul-comm p c)
 
-pub pair-distance : (ws : List ℕ) (i j m : ℕ) → PairStands ws i j → m ≡ j * size (readRow ws) → floatAt ws (2 + 7 * size (readRow ws) + 2 * (m + i)) ≡ getD (readRow ws .distances) (j * size (readRow ws) + i) pzero
-pair-distance ws i j m h e =
-    ap (λ (z : ℕ). floatAt ws (2 + 7 * size (readRow ws) + 2 * (z + i))) e
-    ∙ sym (row-distance ws pzero (j * size (readRow ws) + i) (pair-inside (size (readRow ws)) (readRow ws .before) i j (h .below) (h .below-before)))
+module _ (ws : List ℕ) (i j n m : ℕ) (h : PairStands ws i j) (f : n ≡ size (readRow ws)) (e : m ≡ j * n) where
+  pub pair-distance : floatAt ws (2 + 7 * n + 2 * (m + i)) ≡ getD (readRow ws .distances) (j * size (readRow ws) + i) pzero
+  pair-distance =
+      rw (e, f)
+      (sym (row-distance ws pzero (j * size (readRow ws) + i) (pair-inside (size (readRow ws)) (readRow ws .before) i j (h .below) (h .below-before))))
 
--- within the words
-pub pair-room : (ws : List ℕ) (i j m : ℕ) → PairStands ws i j → m ≡ j * size (readRow ws) → 2 + 7 * size (readRow ws) + 2 * (m + i) + 1 < length ws
-unfolding recordLength
-pair-room ws i j m h e = omega (arith, h .room, pair-inside (size (readRow ws)) (readRow ws .before) i j (h .below) (h .below-before))
+  -- within the words
+  pub pair-room : 2 + 7 * n + 2 * (m + i) + 1 < length ws
+  unfolding recordLength
+  pair-room = rw (e, f) (omega (arith, h .room, pair-inside (size (readRow ws)) (readRow ws .before) i j (h .below) (h .below-before)))
 
 -- ---- a pair of two records
 
@@ -47,6 +50,14 @@ module _ (n : ℕ) (own previous : List ℕ) (t : TwoRecords n own previous) whe
       let before = t .before (omega arith) in
       record { few = t .few; few-before = omega (arith, t .few-before); room = t .room; below = h; below-before = omega arith }
 
+  -- its routes are in a table of 1,024 entries
+  pub routes-inside : (i j : ℕ) → i < size (readRow own) → j < size (readRow previous) → {c m : ℕ} → c ≡ size (readRow own) → 1024 ≤ m
+      → (2 * i + 1 < 2 * c) × ((2 * j + 1) * (2 * c) + (2 * i + 1) < m)
+  routes-inside i j h l {c} {m} e long =
+      let below : i < c = omega arith in
+      let few : c ≤ 16 = omega (arith, t .few) in
+      (omega arith, pair-held c (size (readRow previous)) m i j below l (omega (arith, table-fits (size (readRow previous)) c (t .few-before) few)))
+
   pub pair-below : (p m k : ℕ) → p ≡ size (readRow previous) → m ≡ size (readRow own) * p → k < m → PairBelow (size (readRow own)) p k
   pair-below p m k e f h = record { few = t .few; few-before = omega (arith, t .few-before); below = omega arith }
 
@@ -56,6 +67,10 @@ module _ (n : ℕ) (own previous : List ℕ) (t : TwoRecords n own previous) whe
 
   pub pairs-few : (p m : ℕ) → p ≡ size (readRow previous) → m ≡ size (readRow own) * p → m ≤ 256
   pairs-few p m e f = let few : p ≤ 16 = omega (arith, t .few-before) in omega (arith, mul-le-mul (t .few) few)
+
+-- how many pairs there are, by the counts of both rows
+pub pairs-many : (p : ℕ) {c d n : ℕ} → c ≡ d → n ≡ c * p → n ≡ d * p
+pairs-many p e f = f ∙ ap (λ (z : ℕ). z * p) e
 
 -- its number
 pub pair-narrow : (c p k : ℕ) → PairBelow c p k → k < 256
