@@ -27,6 +27,12 @@ use Rattle.steps.proofs.Tables.{holds-same}
 
 -- ---- a field of each candidate
 
+abbrev pub element : Cell → ℕ
+element c = c .candidate .element
+
+abbrev pub flag : Cell → ℕ
+flag c = c .candidate .near
+
 module _ (f : Cell → ℕ) (r : Row) where
   pub copied-turn : (xs : List ℕ) (k : ℕ) {v : ℕ} → take k xs ≡ take k (map f (r .cells)) → k < size r → k < length xs → v ≡ f (cellOf r k)
       → take (k + 1) (set xs k v) ≡ take (k + 1) (map f (r .cells))
@@ -53,8 +59,8 @@ module _ {n : ℕ} {own previous : List ℕ} (t : TwoRecords n own previous) whe
 
   pub elements-known : {xs : List ℕ} → xs ≡ elementsOf (readRow own) → (i : ℕ) → i < length xs → getD xs i 0 < n
   elements-known {xs} e i l =
-      let below : i < size (readRow own) = omega (arith, copied-long (λ (c : Cell). c .candidate .element) (readRow own) e refl) in
-      rw (e, List·getD-map (λ (c : Cell). c .candidate .element) (readRow own .cells) i noCell) (t .element i below)
+      let below : i < size (readRow own) = omega (arith, copied-long element (readRow own) e refl) in
+      rw (e, List·getD-map element (readRow own .cells) i noCell) (t .element i below)
 
 -- the routes by what was copied
 pub routes-copied : (r : Row) {g : Graph} {p : Row} {found : List Float} {before : ℕ} {elements near : List ℕ} → PairRoutes g p before elements near found
@@ -75,12 +81,9 @@ module _ (net : Network) (settings : Settings) (p r : Row) (found : List Float) 
   unfolding pairStep
   pair-same i j h l =
       cond-same (finite (scoreOf p j))
-      (λ f. rw (← length-map (r .cells) (λ (c : Cell). c .candidate .element))
-      (step-same net settings p (size p) (elementsOf r) (flagsOf r) found
-      (length-map (r .cells) (λ (c : Cell). c .candidate .near) ∙ sym (length-map (r .cells) (λ (c : Cell). c .candidate .element))) held i j
-      (omega (arith, length-map (r .cells) (λ (c : Cell). c .candidate .element))) l f (cellOf r i .candidate) _
-      (sym (List·getD-map (λ (c : Cell). c .candidate .element) (r .cells) i noCell))
-      (sym (List·getD-map (λ (c : Cell). c .candidate .near) (r .cells) i noCell))))
+      (λ f. rw (← length-map (r .cells) element)
+      (step-same net settings p (size p) (elementsOf r) (flagsOf r) found (length-map (r .cells) flag ∙ sym (length-map (r .cells) element)) held i j
+      (omega (arith, length-map (r .cells) element)) l f (cellOf r i .candidate) _ (sym (List·getD-map element (r .cells) i noCell)) (sym (List·getD-map flag (r .cells) i noCell))))
 
   pub table-holds : (c n : ℕ) (t : Tables) → c ≡ size p → n ≡ size r * c → Holds (λ k. byTable (k / c) (k % c)) n t → Holds (stepOfPair (transition net settings) p r) n t
   table-holds c n t e m =

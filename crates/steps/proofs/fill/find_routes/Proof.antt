@@ -1,10 +1,9 @@
 -- `steps::fill::find_routes` meets its contract. Assumes nothing.
 use native.Mathlib.Omega.{arith}
 use borrow.Author.Needs.{needs}
-use Rattle.journal.specs.Row.{Cell}
 use Rattle.journal.specs.Record.{readRow}
 use Rattle.steps.proofs.Records.{own-some}
-use Rattle.steps.proofs.Routes.{copied-long, own-record, previous-known, elements-known, routes-copied}
+use Rattle.steps.proofs.Routes.{element, flag, copied-long, own-record, previous-known, elements-known, routes-copied}
 use Rattle.steps.proofs.fill.find_routes.Statement.{statement}
 use Rattle.steps.proofs.fill.find_routes.Tie as tie
 
@@ -28,20 +27,20 @@ array-share-prefix-elements : tie.Need-array-share-prefix-elements
 array-share-prefix-elements c = search needs
 
 slice-aggregate-pair-routes : tie.Need-slice-aggregate-pair-routes
-slice-aggregate-pair-routes c = copied-long (λ (d : Cell). d .candidate .element) (readRow (c .before .before .before .before .before .before .before .before .before .before .before .before .before .before .before .before .before .before .args .own .now)) (c .before .before .before .copy-fields .ensures .0) (c .before .before .before .before .before .before .before .candidate-count .ensures)
+slice-aggregate-pair-routes c = copied-long element (readRow (c .before .before .before .before .before .before .before .before .before .before .before .before .before .before .before .before .before .before .args .own .now)) (c .before .before .before .copy-fields .ensures .0) (c .before .before .before .before .before .before .before .candidate-count .ensures)
 
 array-share-prefix-near : tie.Need-array-share-prefix-near
 array-share-prefix-near c = search needs
 
 slice-aggregate-pair-routes-2 : tie.Need-slice-aggregate-pair-routes-2
-slice-aggregate-pair-routes-2 c = copied-long (λ (d : Cell). d .candidate .near) (readRow (c .before .before .before .before .before .before .before .before .before .before .before .before .before .before .before .before .before .before .before .args .own .now)) (c .before .before .before .before .copy-fields .ensures .1) (c .before .before .before .before .before .before .before .before .candidate-count .ensures)
+slice-aggregate-pair-routes-2 c = copied-long flag (readRow (c .before .before .before .before .before .before .before .before .before .before .before .before .before .before .before .before .before .before .before .args .own .now)) (c .before .before .before .before .copy-fields .ensures .1) (c .before .before .before .before .before .before .before .before .candidate-count .ensures)
 
 pair-routes-requires : tie.Need-pair-routes-requires
 pair-routes-requires c κs = let pre = c .before .before .before .before .before .before .before .before .before .before .before .before .before .before .before .before .before .before .before .before .pre in
     let t = pre .1 .0 in
     let copied = c .before .before .before .before .before .copy-fields .ensures .0 in
     let before = c .before .before .before .before .before .before .before .before .candidate-count2 .ensures in
-    let long = copied-long (λ (d : Cell). d .candidate .element) (readRow (c .before .before .before .before .before .before .before .before .before .before .before .before .before .before .before .before .before .before .before .before .args .own .now)) copied (c .before .before .before .before .before .before .before .before .before .candidate-count .ensures) in
+    let long = copied-long element (readRow (c .before .before .before .before .before .before .before .before .before .before .before .before .before .before .before .before .before .before .before .before .args .own .now)) copied (c .before .before .before .before .before .before .before .before .before .candidate-count .ensures) in
     (pre .0, (previous-known t before, (elements-known t copied, (omega (arith, before, t .few-before), omega (arith, long, c .before .before .before .before .before .before .before .before .before .candidate-count .ensures, t .few), pre .1 .1))))
 
 same-length : tie.Need-same-length

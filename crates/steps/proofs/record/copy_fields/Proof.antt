@@ -3,12 +3,11 @@ use mathlib.Core.Path.{_≡_, refl, ap}
 use Prim.Native.Nat.{_-_, _≤_}
 use native.Mathlib.Omega.{arith}
 use lib.ListN.{length, take, length-set}
-use Rattle.journal.specs.Row.{Cell}
 use Rattle.journal.specs.Record.{readRow}
 use Rattle.journal.specs.declared.record.Candidate.{Candidate}
 use Rattle.rows.proofs.Records.{stands-at}
 use Rattle.steps.specs.Tables.{elementsOf, flagsOf}
-use Rattle.steps.proofs.Routes.{copied-turn, copied-done}
+use Rattle.steps.proofs.Routes.{element, flag, copied-turn, copied-done}
 use Rattle.steps.proofs.record.copy_fields.Statement.{statement}
 use Rattle.steps.proofs.record.copy_fields.Tie as tie
 
@@ -55,9 +54,9 @@ loop-again c = let start = c .before .before .before .before .before .before in
       omega (arith, l),
       simp length-set (inv .1),
       simp length-set (inv .2),
-      copied-turn (λ (d : Cell). d .candidate .element) row (c .before .before .loop .elements) (c .before .before .loop .i) (inv .3) (omega (arith, l, start .pre .0 .many)) (omega (arith, l, inv .1, start .pre .1 .0))
+      copied-turn element row (c .before .before .loop .elements) (c .before .before .loop .i) (inv .3) (omega (arith, l, start .pre .0 .many)) (omega (arith, l, inv .1, start .pre .1 .0))
           (ap (λ (d : Candidate). d .element) (c .candidate-of .ensures)),
-      copied-turn (λ (d : Cell). d .candidate .near) row (c .before .before .loop .near) (c .before .before .loop .i) (inv .4) (omega (arith, l, start .pre .0 .many)) (omega (arith, l, inv .2, start .pre .1 .1))
+      copied-turn flag row (c .before .before .loop .near) (c .before .before .loop .i) (inv .4) (omega (arith, l, start .pre .0 .many)) (omega (arith, l, inv .2, start .pre .1 .1))
           (ap (λ (d : Candidate). d .near) (c .candidate-of .ensures)),
     )
 
@@ -71,8 +70,8 @@ returns : tie.Need-returns Inv-loop μ-loop
 returns c = let start = c .before .before .before .before .before in
     let inv = c .before .loop .inv in
     let row = readRow (start .args .words .now) in (
-      copied-done (λ (d : Cell). d .candidate .element) row (c .before .loop .elements) (c .before .loop .i) (start .args .count) (inv .3) (omega (arith, inv .0, c .loop-test .left)) (omega (arith, start .pre .0 .many)),
-      copied-done (λ (d : Cell). d .candidate .near) row (c .before .loop .near) (c .before .loop .i) (start .args .count) (inv .4) (omega (arith, inv .0, c .loop-test .left)) (omega (arith, start .pre .0 .many)),
+      copied-done element row (c .before .loop .elements) (c .before .loop .i) (start .args .count) (inv .3) (omega (arith, inv .0, c .loop-test .left)) (omega (arith, start .pre .0 .many)),
+      copied-done flag row (c .before .loop .near) (c .before .loop .i) (start .args .count) (inv .4) (omega (arith, inv .0, c .loop-test .left)) (omega (arith, start .pre .0 .many)),
     )
 
 pub copy-fields-spec : {M : Type 1} → statement M
