@@ -1,4 +1,5 @@
--- The routes between two rows in one table, and the steps of the pairs in two tables by pair number: pair k is own candidate k / p with candidate k % p of the p of the predecessor.
+-- The steps of the pairs by the routes of one table, in two tables by pair number: pair k is own candidate k / p with candidate k % p of the p of the
+-- predecessor.
 use Prim.Native.Nat.{ℕ, _+_, _*_, _/_, _%_, _<_, _≤_}
 use mathlib.Core.Path.{_≡_}
 use mathlib.Core.Bool.{Bool, true, false, cond}
