@@ -1,34 +1,32 @@
--- Offers by the routes of a table are those by the routes of the network. Assumes nothing.
+-- Steps and offers by the routes of a table are those by the routes of the network. Assumes nothing.
 use Prim.Native.Nat.{ℕ, _*_, _<_}
-use mathlib.Core.Path.{_≡_, refl, sym, ap, _∙_}
-use mathlib.Core.Bool.{Bool, true, false, not, _&&_, _||_}
+use mathlib.Core.Path.{_≡_, refl, sym}
+use mathlib.Core.Bool.{Bool, true, false, not, _||_}
 use mathlib.Core.List.{List}
-use mathlib.Core.Logic.{_⊎_, inl, inr, ⊎-elim}
+use mathlib.Core.Logic.{⊎-elim}
 use lib.Dec.{eqb}
 use lib.ListN.{length, getD}
 use lib.Ieee.{Float}
 use lib.Ieee.Scale.{finite}
 use Rattle.lists.proofs.Loops.{two, clash, any-stop}
 use Rattle.routing.specs.Network.{Network}
-use Rattle.journal.specs.Row.{Row, Given, cellOf, scoreOf, candidateGiven, fixGiven}
+use Rattle.journal.specs.Row.{Row, Given, distanceOf, cellOf, scoreOf, candidateGiven, fixGiven}
 use Rattle.journal.specs.declared.record.Candidate.{Candidate}
 use Rattle.transition.specs.declared.step.Settings.{Settings}
-use Rattle.transition.specs.declared.step.Step.{Step}
 use Rattle.transition.specs.declared.routes.Routes.{Routes}
 use Rattle.transition.specs.Costs.{routesAt}
 use Rattle.transition.specs.Step.{neitherNear, stepThrough, transition}
-use Rattle.transition.proofs.Cases.{asks-interior, through-unasked, through-network}
-use Rattle.rows.specs.Row.{StepScore, floored, through, offer}
+use Rattle.transition.proofs.Cases.{through-network, through-unasked}
+use Rattle.rows.specs.Row.{StepScore, floored, offer}
 use Rattle.rows.specs.Sides.{anyNear, asksFrom, PairRoutes}
-use Rattle.rows.proofs.Through.{through-infinite}
+use Rattle.rows.proofs.Through.{through-equal}
 use Rattle.rows.proofs.Offered.{own-given}
 
 -- ---- tests
 
-which : (x y z : Bool) → x && (y || z) ≡ false → (x ≡ false) ⊎ ((y ≡ false) × (z ≡ false))
-which false y z e = inl refl
-which true true z e = clash refl e
-which true false z e = inr (refl, e)
+neither : (x y : Bool) → x || y ≡ false → (x ≡ false) × (y ≡ false)
+neither true y e = clash refl e
+neither false y e = (refl, e)
 
 not-not : (b : Bool) → not b ≡ false → b ≡ true
 not-not true e = refl
@@ -40,40 +38,40 @@ none-near near e i h =
     not-not (eqb (getD near i 0) 0)
     (⊎-elim (λ t. clash (sym (any-stop i (length near) (λ k. not (eqb (getD near k 0) 0)) h t)) e) (λ f. f) (two (not (eqb (getD near i 0) 0))))
 
--- ---- offers
+-- ---- steps and offers
 
 module _ (net : Network) (settings : Settings) where
   abbrev pub steps : Routes → StepScore
   steps routes = stepThrough (net .graph .lengths) (net .headings) (net .flags) settings routes
 
-  unasked : (a b : Candidate) (d : Float) (routes : Routes) → neitherNear a b ≡ true → steps routes a b d ≡ transition net settings a b d
-  unasked a b d routes e = through-unasked (net .graph .lengths) (net .headings) (net .flags) settings a b d routes _ (asks-interior a b e) ∙ through-network net settings a b d
+  -- from candidate j of the predecessor, which has a finite score, to a candidate with element and flag of own candidate i
+  module _ (p : Row) (before : ℕ) (elements near : List ℕ) (found : List Float) (even : length near ≡ length elements)
+      (held : PairRoutes (net .graph) p before elements near found) (i j : ℕ) (h : i < length elements) (l : j < before) where
+    abbrev at : Routes
+    at = routesAt found (2 * length elements) j i
+
+    pub step-same : finite (scoreOf p j) ≡ true → (b : Candidate) (d : Float) → b .element ≡ getD elements i 0 → b .near ≡ getD near i 0
+        → steps at (cellOf p j .candidate) b d ≡ transition net settings (cellOf p j .candidate) b d
+    step-same f b d e n = ⊎-elim asked unasked (two (asksFrom p (anyNear near) j))
+      where
+        a : Candidate
+        a = cellOf p j .candidate
+
+        asked : asksFrom p (anyNear near) j ≡ true → steps at a b d ≡ transition net settings a b d
+        asked t = rw (held .routes j i l h t, ← e) (through-network net settings a b d)
+
+        unasked : asksFrom p (anyNear near) j ≡ false → steps at a b d ≡ transition net settings a b d
+        unasked t = through-unasked net settings a b d at (interior (neither (not (eqb (a .near) 0)) (anyNear near) (unfold asksFrom in rw f at t)))
+          where
+            interior : (not (eqb (a .near) 0) ≡ false) × (anyNear near ≡ false) → neitherNear a b ≡ true
+            interior q = unfold neitherNear in rw (not-not (eqb (a .near) 0) (q .0), n, none-near near (q .1) i (rw even h))
 
   module _ (g : Given) (p : Row) (before : ℕ) (found : List Float) (even : length (g .near) ≡ length (g .elements))
       (held : PairRoutes (net .graph) p before (g .elements) (g .near) found) (i j : ℕ) (h : i < length (g .elements)) (l : j < before) where
-    abbrev a : Candidate
-    a = cellOf p j .candidate
-
-    abbrev b : Candidate
-    b = candidateGiven g i (getD (g .elements) i 0)
-
-    abbrev at : Routes
-    at = routesAt found (2 * length (g .elements)) j i
-
-    same-step : (d : Float) → asksFrom p (anyNear (g .near)) j ≡ true → steps at a b d ≡ transition net settings a b d
-    same-step d e = rw (held .routes j i l h e) (through-network net settings a b d)
-
-    same-through : (d : Float) → asksFrom p (anyNear (g .near)) j ≡ false → through (scoreOf p j) (steps at a b d) (floored b) ≡ through (scoreOf p j) (transition net settings a b d) (floored b)
-    unfolding asksFrom
-    same-through d e =
-        ⊎-elim (λ infinite. sym (through-infinite (scoreOf p j) (steps at a b d) (floored b) infinite) ∙ through-infinite (scoreOf p j) (transition net settings a b d) (floored b) infinite)
-        (λ neither. ap (λ (s : Step). through (scoreOf p j) s (floored b)) (unasked a b d at (interior (neither .0) (neither .1))))
-        (which (finite (scoreOf p j)) (not (eqb (a .near) 0)) (anyNear (g .near)) e)
-      where
-        interior : not (eqb (a .near) 0) ≡ false → anyNear (g .near) ≡ false → neitherNear a b ≡ true
-        interior m n = unfold neitherNear in rw (not-not (eqb (a .near) 0) m, none-near (g .near) n i (rw even h))
-
-    pub offer-same : offer (steps at) p (fixGiven g) i j ≡ offer (transition net settings) p (fixGiven g) i j
+    pub offer-same : offer (steps (routesAt found (2 * length (g .elements)) j i)) p (fixGiven g) i j ≡ offer (transition net settings) p (fixGiven g) i j
     unfolding offer
-    offer-same = rw (own-given g i h)
-        (⊎-elim (λ t. ap (λ (s : Step). through (scoreOf p j) s (floored b)) (same-step _ t)) (λ f. same-through _ f) (two (asksFrom p (anyNear (g .near)) j)))
+    offer-same =
+        let b = candidateGiven g i (getD (g .elements) i 0) in
+        rw (own-given g i h)
+        (through-equal (scoreOf p j) _ _ (floored b)
+        (λ f. step-same p before (g .elements) (g .near) found even held i j h l f b (distanceOf (fixGiven g) j i) refl refl))

@@ -3,4 +3,4 @@ pub mod offer;
 mod offers;
 pub mod previous;
 pub mod row;
-mod sides;
+pub mod sides;

@@ -4,7 +4,7 @@ use journal::record::Candidate;
 use transition::routes::Routes;
 use transition::step::Settings;
 use transition::step::Step;
-use transition::step::step_through;
+use transition::step::compute_log_transition;
 ghost use mathlib.Core.Path.{_≡_};
 ghost use Prim.Native.Nat.{_<_};
 ghost use lib.ListN.{length};
@@ -44,7 +44,7 @@ pub fn offer(
     if !is_finite(previous) {
         return Step::Impossible;
     }
-    let step = step_through(lengths, headings, flags, a, b, routes, distance, settings);
+    let step = compute_log_transition(lengths, headings, flags, a, b, routes, distance, settings);
     match step {
         Step::Possible(v) => Step::Possible((previous + v) + floored_log(b.raw_log)),
         Step::Impossible => Step::Impossible,

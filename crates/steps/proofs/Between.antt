@@ -1,7 +1,7 @@
 -- The steps between two rows, counted, then stored or refused: what the calls answer. Assumes nothing.
 use Prim.Native.Nat.{ℕ, _-_, _*_, _<_, _≤_}
 use native.Mathlib.Omega.{arith}
-use mathlib.Core.Path.{_≡_, refl, sym, ap, _∙_, subst₂}
+use mathlib.Core.Path.{_≡_, refl, sym, ap, _∙_, subst, subst₂}
 use mathlib.Core.Bool.{Bool}
 use mathlib.Core.List.{List, []}
 use borrow.Author.Tests.{le-leb, lt-leb}
@@ -37,28 +37,34 @@ nothing-listed l b e = rw e (refl, refl)
 pub room-listed : (possible : List Bool) (n k room : ℕ) (b : Buffers) → k ≡ countOf possible n → room ≡ roomOf b → k ≤ room → Room (countOf possible n) b
 room-listed possible n k room b g q l = room-all (countOf possible n) b (omega (arith, g, q))
 
-module _ (step : StepScore) (m : ℕ) (p : Row) (row : ℕ) (r : Row) (n c : ℕ) (t : Tables) (e : n ≡ size r * c) (f : c ≡ size p) (h : Holds (stepOfPair step p r) n t) where
-  entries-are : entriesOf (stepAt t) m row c n ≡ stepsBetween step m p row r
-  entries-are = ap (λ (z : ℕ). entriesOf (stepAt t) m row z n) f ∙ between step m p row r n t (e ∙ ap (λ (z : ℕ). size r * z) f) h
+-- the entries of the first n pairs of the tables t
+module _ (m row c n : ℕ) (t : Tables) (k room : ℕ) (b : Buffers) (g : k ≡ countOf (t .possible) n) (q : room ≡ roomOf b) where
+  abbrev entries : List Entry
+  entries = entriesOf (stepAt t) m row c n
 
-  module _ (k room : ℕ) (b : Buffers) (g : k ≡ countOf (t .possible) n) (q : room ≡ roomOf b) where
-    long : k ≡ length (stepsBetween step m p row r)
-    long = g ∙ count-is m row c t n ∙ ap length entries-are
+  long : k ≡ length entries
+  long = g ∙ count-is m row c t n
 
-    pub too-many : room < k → Answers (fitted (stepsBetween step m p row r) (roomOf b)) b (Refused 15) b
-    too-many l =
-        let over : roomOf b < length (stepsBetween step m p row r) = omega (arith, long, q) in
-        refused-is (fitted (stepsBetween step m p row r) (roomOf b)) 15 b (rw (lt-leb (length (stepsBetween step m p row r)) (roomOf b) over))
+  pub too-many : room < k → Answers (fitted entries (roomOf b)) b (Refused 15) b
+  too-many l =
+      let over : roomOf b < length entries = omega (arith, long, q) in
+      refused-is (fitted entries (roomOf b)) 15 b (rw (lt-leb (length entries) (roomOf b) over))
 
-    module _ (l : k ≤ room) where
-      within : length (stepsBetween step m p row r) ≤ roomOf b
-      within = omega (arith, long, q)
+  module _ (l : k ≤ room) where
+    within : length entries ≤ roomOf b
+    within = omega (arith, long, q)
 
-      pub all-listed : (b′ : Buffers) → b′ ≡ put (entriesOf (stepAt t) m row c n) 0 b → Answers (fitted (stepsBetween step m p row r) (roomOf b)) b (Listed k) b′
-      unfolding answered stored
-      all-listed b′ w =
-          rw (le-leb (length (stepsBetween step m p row r)) (roomOf b) within)
-          (ap Listed long, w ∙ ap (λ (s : List Entry). put s 0 b) entries-are ∙ put-written (stepsBetween step m p row r) b (room-all (length (stepsBetween step m p row r)) b within))
+    pub all-listed : (b′ : Buffers) → b′ ≡ put entries 0 b → Answers (fitted entries (roomOf b)) b (Listed k) b′
+    unfolding answered stored
+    all-listed b′ w = rw (le-leb (length entries) (roomOf b) within) (ap Listed long, w ∙ put-written entries b (room-all (length entries) b within))
+
+-- those of tables that hold the steps between two rows
+pub entries-between : (step : StepScore) (m : ℕ) (p : Row) (row : ℕ) (r : Row) (n c : ℕ) (t : Tables) → n ≡ size r * c → c ≡ size p → Holds (stepOfPair step p r) n t
+    → (b : Buffers) {a : StepsListed} {b′ : Buffers} → Answers (fitted (entriesOf (stepAt t) m row c n) (roomOf b)) b a b′ → Answers (fitted (stepsBetween step m p row r) (roomOf b)) b a b′
+entries-between step m p row r n c t e f h b {a} {b′} w = subst (λ (l : List Entry). Answers (fitted l (roomOf b)) b a b′) are w
+  where
+    are : entriesOf (stepAt t) m row c n ≡ stepsBetween step m p row r
+    are = ap (λ (z : ℕ). entriesOf (stepAt t) m row z n) f ∙ between step m p row r n t (e ∙ ap (λ (z : ℕ). size r * z) f) h
 
 -- ---- the records as parts of the journal
 

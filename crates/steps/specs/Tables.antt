@@ -1,4 +1,5 @@
--- The steps of the pairs in two tables by pair number: pair k is own candidate k / p with candidate k % p of the p of the predecessor.
+-- The steps of the pairs by the routes of one table, in two tables by pair number: pair k is own candidate k / p with candidate k % p of the p of the
+-- predecessor.
 use Prim.Native.Nat.{ℕ, _+_, _*_, _/_, _%_, _<_, _≤_}
 use mathlib.Core.Path.{_≡_}
 use mathlib.Core.Bool.{Bool, true, false, cond}
@@ -7,7 +8,10 @@ use lib.ListN.{length, getD, set}
 use lib.Seq.{sets}
 use lib.Ieee.{Float, nan}
 use Rattle.lists.specs.Loops.{upTo}
-use Rattle.journal.specs.Row.{Row, size}
+use Rattle.journal.specs.Row.{Cell, Row, size}
+use Rattle.transition.specs.Costs.{routesAt}
+use Rattle.transition.specs.Step.{stepThrough}
+use Rattle.transition.specs.declared.step.Settings.{Settings}
 use Rattle.transition.specs.declared.step.Step.{Step}
 use Rattle.transition.specs.declared.step.Step.the-variants.{Possible, Impossible}
 use Rattle.rows.specs.Row.{StepScore}
@@ -15,7 +19,20 @@ use Rattle.steps.specs.Steps.{pairStep, entryOf}
 use Rattle.steps.specs.Listing.{Buffers}
 use Rattle.steps.specs.declared.store.Entry.{Entry}
 
--- ---- the tables
+-- ---- the routes between two rows' candidates
+
+-- elements and near flags of a row's candidates
+abbrev pub elementsOf : Row → List ℕ
+elementsOf r = map (λ (c : Cell). c .candidate .element) (r .cells)
+
+abbrev pub flagsOf : Row → List ℕ
+flagsOf r = map (λ (c : Cell). c .candidate .near) (r .cells)
+
+-- a pair's step by a table of routes, two rows for each candidate of p and two columns for each of r
+abbrev pub pairByTable : List Float → List Float → List ℕ → Settings → List Float → Row → Row → ℕ → ℕ → Step
+pairByTable lengths headings flags settings found p r i j = pairStep (stepThrough lengths headings flags settings (routesAt found (2 * size r) j i)) p r i j
+
+-- ---- the tables of steps
 
 -- whether each step is possible, and its score
 pub record Tables : Type 0 where

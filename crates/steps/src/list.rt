@@ -1,7 +1,8 @@
 // Listing a row's steps.
-use crate::fill::fill_pairs;
+use crate::fill::fill_steps;
 use crate::find::Found;
 use crate::find::find_row;
+use crate::record::candidate_count;
 use crate::store::count_steps;
 use crate::store::put_entries;
 use journal::record::distance_count;
@@ -10,7 +11,7 @@ use routing::network::check_network;
 use transition::step::Settings;
 use transition::step::settings_fit;
 ghost use mathlib.Core.Path.{_≡_};
-ghost use Prim.Native.Nat.{_<_, min};
+ghost use Prim.Native.Nat.{_<_, _≤_, min};
 ghost use lib.ListN.{length};
 ghost use Rattle.routing.specs.Network.{networkOf, checked};
 ghost use Rattle.transition.specs.Step.{transition};
@@ -18,6 +19,7 @@ ghost use Rattle.journal.specs.Record.{readRow};
 ghost use Rattle.steps.specs.Steps.{stepsBetween};
 ghost use Rattle.steps.specs.Listing.{buffersOf, roomOf, answered, stored, listing, fitted};
 ghost use Rattle.steps.specs.Find.{TwoRecords};
+ghost use Rattle.steps.specs.Tables.{tables, stepAt, Wide, entriesOf};
 
 // How many steps were listed, or a refusal's number.
 pub enum StepsListed {
@@ -32,6 +34,52 @@ fn least(a: usize, b: usize) -> usize
         return a;
     }
     b
+}
+
+// The possible ones of the first n steps of the tables into the buffers, where the predecessor has `count` candidates: check 15.
+fn store_steps(
+    possible: &[bool; 256],
+    scores: &[f64; 256],
+    predecessor_row: u32,
+    row: u32,
+    count: usize,
+    n: usize,
+    predecessor_rows: &mut [u32],
+    predecessor_candidates: &mut [u32],
+    rows: &mut [u32],
+    candidates: &mut [u32],
+    steps: &mut [f64],
+) -> StepsListed
+    requires { ⌜ Wide (tables (now possible) (now scores)) ⌝ }
+    requires { ⌜ (n ≤ 256) × (0 < n → 0 < count) ⌝ }
+    ensures { λ r. ⌜ r ≡ answered (fitted (entriesOf (stepAt (tables (now (possible .entry)) (now (scores .entry)))) «predecessor_row» row count n) (roomOf (buffersOf (now («predecessor_rows» .entry)) (now («predecessor_candidates» .entry)) (now (rows .entry)) (now (candidates .entry)) (now (steps .entry))))) ⌝ }
+    ensures { λ r. ⌜ buffersOf (now («predecessor_rows» .exit)) (now («predecessor_candidates» .exit)) (now (rows .exit)) (now (candidates .exit)) (now (steps .exit)) ≡ stored (fitted (entriesOf (stepAt (tables (now (possible .entry)) (now (scores .entry)))) «predecessor_row» row count n) (roomOf (buffersOf (now («predecessor_rows» .entry)) (now («predecessor_candidates» .entry)) (now (rows .entry)) (now (candidates .entry)) (now (steps .entry))))) (buffersOf (now («predecessor_rows» .entry)) (now («predecessor_candidates» .entry)) (now (rows .entry)) (now (candidates .entry)) (now (steps .entry))) ⌝ }
+{
+    let listed = count_steps(possible, n);
+    let room = least(
+        predecessor_rows.len(),
+        least(
+            predecessor_candidates.len(),
+            least(rows.len(), least(candidates.len(), steps.len())),
+        ),
+    );
+    if room < listed {
+        return StepsListed::Refused(15);
+    }
+    put_entries(
+        possible,
+        scores,
+        predecessor_row,
+        row,
+        count,
+        n,
+        predecessor_rows,
+        predecessor_candidates,
+        rows,
+        candidates,
+        steps,
+    );
+    StepsListed::Listed(listed)
 }
 
 // The steps between two rows, whose records stand at the head of some words: check 15.
@@ -61,11 +109,11 @@ fn list_between(
     ensures { λ r. ⌜ r ≡ answered (fitted (stepsBetween (transition (networkOf (now (lengths .entry)) (now (headings .entry)) (now (flags .entry)) (now (from .entry)) (now (to .entry)) (now («from_side» .entry)) (now («to_side» .entry)) (now (forward .entry)) (now (backward .entry))) settings) «predecessor_row» (readRow (now (previous .entry))) row (readRow (now (own .entry)))) (roomOf (buffersOf (now («predecessor_rows» .entry)) (now («predecessor_candidates» .entry)) (now (rows .entry)) (now (candidates .entry)) (now (steps .entry))))) ⌝ }
     ensures { λ r. ⌜ buffersOf (now («predecessor_rows» .exit)) (now («predecessor_candidates» .exit)) (now (rows .exit)) (now (candidates .exit)) (now (steps .exit)) ≡ stored (fitted (stepsBetween (transition (networkOf (now (lengths .entry)) (now (headings .entry)) (now (flags .entry)) (now (from .entry)) (now (to .entry)) (now («from_side» .entry)) (now («to_side» .entry)) (now (forward .entry)) (now (backward .entry))) settings) «predecessor_row» (readRow (now (previous .entry))) row (readRow (now (own .entry)))) (roomOf (buffersOf (now («predecessor_rows» .entry)) (now («predecessor_candidates» .entry)) (now (rows .entry)) (now (candidates .entry)) (now (steps .entry))))) (buffersOf (now («predecessor_rows» .entry)) (now («predecessor_candidates» .entry)) (now (rows .entry)) (now (candidates .entry)) (now (steps .entry))) ⌝ }
 {
-    let count = (previous[0] % 32) as usize;
-    let n = distance_count((own[0] % 32) as usize, count);
+    let count = candidate_count(previous);
+    let n = distance_count(candidate_count(own), count);
     let mut possible = [false; 256];
     let mut scores = [0.0; 256];
-    fill_pairs(
+    fill_steps(
         lengths,
         headings,
         flags,
@@ -83,18 +131,7 @@ fn list_between(
         &mut possible,
         &mut scores,
     );
-    let listed = count_steps(&possible, n);
-    let room = least(
-        predecessor_rows.len(),
-        least(
-            predecessor_candidates.len(),
-            least(rows.len(), least(candidates.len(), steps.len())),
-        ),
-    );
-    if room < listed {
-        return StepsListed::Refused(15);
-    }
-    put_entries(
+    store_steps(
         &possible,
         &scores,
         predecessor_row,
@@ -106,8 +143,7 @@ fn list_between(
         rows,
         candidates,
         steps,
-    );
-    StepsListed::Listed(listed)
+    )
 }
 
 // The steps into a row, from the finite candidates of its predecessor, possible ones only, own candidate outer: into five buffers, an entry in each.

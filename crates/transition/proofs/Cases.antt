@@ -2,17 +2,15 @@
 -- code. Assumes nothing.
 use mathlib.Core.Path.{_≡_, refl, sym, ap, _∙_}
 use Prim.Native.Nat.{ℕ}
-use mathlib.Core.Bool.{Bool, true, false, not, _&&_, cond}
+use mathlib.Core.Bool.{Bool, true, false, cond}
 use mathlib.Core.List.{List}
 use lib.Dec.{T, eqb}
 use lib.Ieee.{Float, binary64, neg, rem, lt, eq, fits, ofBits}
 use borrow.Author.Tests.{eq-eqb, ne-eqb}
-use Rattle.lists.proofs.Loops.{clash}
 use Rattle.binary64.specs.Values.{pzero}
 use Rattle.binary64.specs.Ranges.{inRange}
-use Rattle.routing.specs.Network.{Network, checked}
-use Rattle.routing.specs.Route.{route, distanceBy, distanceOf}
-use Rattle.routing.specs.declared.network.Checked.the-variants.{Accepted}
+use Rattle.routing.specs.Network.{Network}
+use Rattle.routing.specs.Route.{route}
 use Rattle.routing.specs.declared.route.Route.{Route}
 use Rattle.routing.specs.declared.route.Route.the-variants.{Cost, Unreachable}
 use Rattle.journal.specs.declared.record.Candidate.{Candidate}
@@ -23,9 +21,9 @@ use Rattle.transition.specs.declared.step.Step.{Step}
 use Rattle.transition.specs.declared.step.Step.the-variants.{Possible, Impossible}
 use Rattle.transition.specs.Settings.{betaFits, settingsFit}
 use Rattle.transition.specs.Place.{headingAt, placeAt, leaving, entering}
-use Rattle.transition.specs.Routes.{knownRoute, routesBy}
+use Rattle.transition.specs.Routes.{routesBy}
 use Rattle.transition.specs.Pair.{_⊕_, _⊖_, _⊗_, _⊘_, magnitude, partialNetelementDistance, routeDistance, folded, directionalHeadingDifference, distanceTerm, turnTerm, plusTerm, pairScore, greaterStep, greatest, pairScores, greatestPair}
-use Rattle.transition.specs.Step.{neitherNear, asksRoutes, stepScore, stepThrough, transition}
+use Rattle.transition.specs.Step.{neitherNear, stepScore, stepThrough, transition}
 use Rattle.transition.proofs.Differences.{magnitude-cond}
 
 -- ---- the literals of the code
@@ -201,26 +199,7 @@ module _ (a b : Candidate) where
   unfolding neitherNear
   near-second h = rw (eq-eqb (a .near) 0 h)
 
--- ---- asks_routes
-
-module _ (a b : Candidate) where
-  pub asks-same : a .element ≡ b .element → false ≡ asksRoutes a b
-  unfolding asksRoutes
-  asks-same e = rw (eq-eqb (a .element) (b .element) e)
-
-  pub asks-other : {near : Bool} → (a .element ≡ b .element → ⊥) → near ≡ neitherNear a b → not near ≡ asksRoutes a b
-  unfolding asksRoutes
-  asks-other e h = rw (ne-eqb (a .element) (b .element) e, h)
-
-  pub asks-interior : neitherNear a b ≡ true → asksRoutes a b ≡ false
-  unfolding asksRoutes
-  asks-interior h = rw h (go (eqb (a .element) (b .element)))
-    where
-      go : (same : Bool) → not same && false ≡ false
-      go true = refl
-      go false = refl
-
--- ---- step_through
+-- ---- compute_log_transition
 
 module _ (lengths headings : List Float) (flags : List ℕ) (settings : Settings) (routes : Routes) (a b : Candidate) (d : Float) where
   pub through-same : eqb (a .element) (b .element) ≡ true → Possible (bits 0) ≡ stepThrough lengths headings flags settings routes a b d
@@ -237,44 +216,15 @@ module _ (lengths headings : List Float) (flags : List ℕ) (settings : Settings
   unfolding stepThrough stepScore
   through-pairs other near p q h = rw (other, near, ← p, ← q) h
 
--- routes do not matter where none are asked for
-score-unasked : (settings : Settings) (a b : Candidate) (from to : Place) (routes routes′ : Routes) (d : Float) → asksRoutes a b ≡ false
-    → stepScore settings a b from to routes d ≡ stepScore settings a b from to routes′ d
-unfolding stepScore asksRoutes
-score-unasked settings a b from to routes routes′ d = go (eqb (a .element) (b .element)) (neitherNear a b)
-  where
-    go : (same near : Bool) → not same && not near ≡ false
-        → cond same (Possible pzero) (cond near Impossible (greatestPair settings a b from to routes d)) ≡ cond same (Possible pzero) (cond near Impossible (greatestPair settings a b from to routes′ d))
-    go true near e = refl
-    go false true e = refl
-    go false false e = clash refl e
+-- ---- the step score over the network
 
-pub through-unasked : (lengths headings : List Float) (flags : List ℕ) (settings : Settings) (a b : Candidate) (d : Float) (routes routes′ : Routes) → asksRoutes a b ≡ false
-    → stepThrough lengths headings flags settings routes a b d ≡ stepThrough lengths headings flags settings routes′ a b d
-unfolding stepThrough
-through-unasked lengths headings flags settings a b d routes routes′ = score-unasked settings a b _ _ routes routes′ d
+module _ (net : Network) (settings : Settings) (a b : Candidate) (d : Float) where
+  -- with the routes of the network
+  pub through-network : stepThrough (net .graph .lengths) (net .headings) (net .flags) settings (routesBy (λ s s′. route (net .graph) (a .element) s (b .element) s′)) a b d ≡ transition net settings a b d
+  unfolding transition stepThrough leaving entering
+  through-network = refl
 
--- with the routes of the network it is the step score
-pub through-network : (net : Network) (settings : Settings) (a b : Candidate) (d : Float)
-    → stepThrough (net .graph .lengths) (net .headings) (net .flags) settings (routesBy (λ s s′. route (net .graph) (a .element) s (b .element) s′)) a b d ≡ transition net settings a b d
-unfolding transition stepThrough leaving entering
-through-network net settings a b d = refl
-
--- ---- compute_log_transition
-
-module _ (net : Network) (accepted : checked net ≡ Accepted) where
-  known-accepted : (e s e′ s′ : ℕ) → knownRoute (distanceOf net e s e′ s′) ≡ route (net .graph) e s e′ s′
-  unfolding distanceOf distanceBy knownRoute
-  known-accepted e s e′ s′ = rw accepted
-
-  routes-accepted : (e e′ : ℕ) → routesBy (λ s s′. knownRoute (distanceOf net e s e′ s′)) ≡ routesBy (λ s s′. route (net .graph) e s e′ s′)
-  unfolding routesBy
-  routes-accepted e e′ = rw (known-accepted e 0 e′ 0, known-accepted e 0 e′ 1, known-accepted e 1 e′ 0, known-accepted e 1 e′ 1)
-
-module _ (net : Network) (settings : Settings) (a b : Candidate) (d : Float) (routes : Routes) {r : Step}
-    (h : r ≡ stepThrough (net .graph .lengths) (net .headings) (net .flags) settings routes a b d) where
-  pub transition-unasked : asksRoutes a b ≡ false → r ≡ transition net settings a b d
-  transition-unasked e = h ∙ through-unasked (net .graph .lengths) (net .headings) (net .flags) settings a b d routes _ e ∙ through-network net settings a b d
-
-  pub transition-asked : checked net ≡ Accepted → routes ≡ routesBy (λ s s′. knownRoute (distanceOf net (a .element) s (b .element) s′)) → r ≡ transition net settings a b d
-  transition-asked accepted e = h ∙ rw (e, routes-accepted net accepted (a .element) (b .element)) (through-network net settings a b d)
+  -- with any routes where neither candidate is near
+  pub through-unasked : (routes : Routes) → neitherNear a b ≡ true → stepThrough (net .graph .lengths) (net .headings) (net .flags) settings routes a b d ≡ transition net settings a b d
+  unfolding transition stepThrough stepScore
+  through-unasked routes h = rw h

@@ -1,6 +1,6 @@
 -- The step score (document 01, "Step score"): with the routes given, and over the network.
 use Prim.Native.Nat.{ℕ}
-use mathlib.Core.Bool.{Bool, not, _&&_, cond}
+use mathlib.Core.Bool.{Bool, _&&_, cond}
 use mathlib.Core.List.{List}
 use lib.Dec.{eqb}
 use lib.Ieee.{Float}
@@ -19,10 +19,6 @@ use Rattle.transition.specs.Pair.{greatestPair}
 
 unfoldable pub neitherNear : Candidate → Candidate → Bool
 neitherNear a b = eqb (a .near) 0 && eqb (b .near) 0
-
--- whether the step score depends on routes: in its third case
-unfoldable pub asksRoutes : Candidate → Candidate → Bool
-asksRoutes a b = not (eqb (a .element) (b .element)) && not (neitherNear a b)
 
 -- 1: same element; 2: neither near; 3: over side pairs
 unfoldable pub stepScore : Settings → Candidate → Candidate → Place → Place → Routes → Float → Step
