@@ -9,10 +9,10 @@ use Rattle.routing.specs.declared.network.Checked.the-variants.{Accepted, Refus
 use Rattle.routing.specs.declared.route.Route.{Route}
 use Rattle.routing.specs.declared.route.Route.the-variants.{Cost, Unreachable}
 use Rattle.transition.specs.declared.routes.Routes.{Routes}
-use Rattle.transition.specs.Routes.{knownRoute, routesBy}
+use Rattle.transition.specs.Routes.{routesBy}
 use Rattle.bridges.specs.declared.sides.Cheapest.{Cheapest}
 use Rattle.bridges.specs.declared.sides.Cheapest.the-variants.{Nothing, Sides}
-use Rattle.bridges.specs.Bridges.{cheaper, cheapestOf}
+use Rattle.bridges.specs.Bridges.{cheaper, cheapestOf, knownRoute}
 
 -- ---- one more side pair
 

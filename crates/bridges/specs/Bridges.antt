@@ -9,8 +9,10 @@ use Rattle.routing.specs.Network.{Network, Graph}
 use Rattle.routing.specs.Route.{routeStates, distanceOf}
 use Rattle.routing.specs.declared.route.Route.{Route}
 use Rattle.routing.specs.declared.route.Route.the-variants.{Cost, Unreachable}
+use Rattle.routing.specs.declared.route.Distance.{Distance}
+use Rattle.routing.specs.declared.route.Distance.the-variants.{Known, Refused}
 use Rattle.transition.specs.declared.routes.Routes.{Routes}
-use Rattle.transition.specs.Routes.{knownRoute, routesBy}
+use Rattle.transition.specs.Routes.{routesBy}
 use Rattle.transition.specs.Pair.{billionth}
 use Rattle.bridges.specs.declared.sides.Cheapest.{Cheapest}
 use Rattle.bridges.specs.declared.sides.Cheapest.the-variants.{Nothing, Sides}
@@ -52,6 +54,11 @@ traced previous next found (s ∷ states) = traced previous next (joins previous
 unfoldable pub betweenSides : Graph → ℕ → ℕ → Cheapest → List ℕ
 betweenSides g previous next Nothing = []
 betweenSides g previous next (Sides cost side side′) = cond (lt cost billionth) [] (traced previous next [] (routeStates g previous side next side′))
+
+-- the route that was answered; a refused network has none
+unfoldable pub knownRoute : Distance → Route
+knownRoute (Known r) = r
+knownRoute (Refused k) = Unreachable
 
 -- a refused network has no routes, so none
 unfoldable pub between : Network → ℕ → ℕ → List ℕ
