@@ -1,7 +1,7 @@
 //! Box as a host holds it: a network's slices, a journal, and the calls on them.
 
 use crate::linked;
-use differential::language::{Fix, Network, Settings};
+use differential::language::{Fix, Network, Settings, Side};
 
 /// The nine slices of a network.
 pub struct Slices {
@@ -54,6 +54,21 @@ impl FixSlices {
 /// A call that is refused here is a fault of the benchmark.
 fn accepted(status: u32, call: &str) {
     assert_eq!(status, 0, "{call} was refused");
+}
+
+/// The cost of a route that there is.
+pub fn distance(s: &Slices, start: Side, goal: Side) -> f64 {
+    let [from, to, from_side, to_side, forward, backward] = &s.relations;
+    let mut cost = 0.0;
+    let status = unsafe {
+        linked::box_shortest_path_distance(
+            s.lengths.as_ptr(), s.lengths.len(), s.headings.as_ptr(), s.headings.len(), s.flags.as_ptr(), s.flags.len(),
+            from.as_ptr(), from.len(), to.as_ptr(), to.len(), from_side.as_ptr(), from_side.len(), to_side.as_ptr(), to_side.len(),
+            forward.as_ptr(), forward.len(), backward.as_ptr(), backward.len(), start.element, start.side, goal.element, goal.side, &mut cost,
+        )
+    };
+    accepted(status, "distance");
+    cost
 }
 
 pub fn open(journal: &mut [u32]) {

@@ -23,6 +23,11 @@ type Words = *const u32;
 type Floats = *const f64;
 
 calls! {
+    box_shortest_path_distance(
+        lengths: Floats, n0: usize, headings: Floats, n1: usize, flags: Words, n2: usize, from: Words, n3: usize, to: Words, n4: usize,
+        from_side: Words, n5: usize, to_side: Words, n6: usize, forward: Words, n7: usize, backward: Words, n8: usize,
+        start: u32, start_side: u32, goal: u32, goal_side: u32, cost: *mut f64
+    );
     box_open(journal: *mut u32, words: usize);
     box_feed(
         lengths: Floats, n0: usize, headings: Floats, n1: usize, flags: Words, n2: usize, from: Words, n3: usize, to: Words, n4: usize,

@@ -4,7 +4,7 @@ mod host;
 mod linked;
 mod yard;
 
-use differential::language::{Fix, Network, Settings};
+use differential::language::{Fix, Network, Settings, Side};
 use differential::original::{config, position_candidates, raw_logs, Original};
 use differential::session::Core;
 use host::{FixSlices, Slices};
@@ -104,6 +104,42 @@ fn drive(case: &str, goal: &str, network: &Network, fixes: &[Fix], runs: usize) 
     print_row(case, goal, Times::of(times), other);
 }
 
+/// The cost of a route: Box checks and indexes the network at each call, the original has built its graph before.
+fn route(case: &str, network: &Network, start: Side, goal: Side) {
+    let (slices, original) = (Slices::of(network), original_of(network));
+    assert_eq!(Some(host::distance(&slices, start, goal)), original.shortest_path_distance(start, goal));
+    let box_times = timed(101, || {
+        black_box(host::distance(&slices, start, goal));
+    });
+    let other = timed(101, || {
+        black_box(original.shortest_path_distance(start, goal));
+    });
+    print_row(case, "", box_times, other);
+}
+
+/// The segments of a drive's best path: Box from its journal, the original from its decoding with an empty cache.
+fn build(case: &str, network: &Network, fixes: &[Fix], runs: usize) {
+    let slices = Slices::of(network);
+    let mut journal = vec![0; 80 * fixes.len() + 1];
+    host::open(&mut journal);
+    fixes.iter().map(FixSlices::of).for_each(|fix| host::feed(&slices, SETTINGS, &mut journal, &fix));
+    let mut segments = vec![linked::Segment::default(); 4 * fixes.len()];
+    let count = host::build(&slices, &journal, &mut segments);
+    let box_times = timed(runs, || {
+        black_box(host::build(&slices, &journal, &mut segments));
+    });
+    let handed: Vec<&Fix> = fixes.iter().collect();
+    let candidates = position_candidates(&handed);
+    let mut original = original_of(network);
+    let decoded = original.viterbi_decode(&candidates, &raw_logs(&handed), &config(SETTINGS));
+    assert_eq!(count, original.build_path_from_viterbi(&decoded, &candidates).len());
+    let other = timed(runs, || {
+        original.clear_cache();
+        black_box(original.build_path_from_viterbi(&decoded, &candidates));
+    });
+    print_row(case, "", box_times, other);
+}
+
 /// A plain sum, as the compiler makes it: several words at a time.
 fn plain_sum(words: &[u32]) -> u32 {
     words.iter().fold(0, |sum: u32, &word| sum.wrapping_add(word))
@@ -142,8 +178,8 @@ fn checks(journal: &mut [u32]) {
         })
     };
     let (by_words, plain) = (sum(sum_by_words), sum(plain_sum));
-    print_row("check 7, 10,000 rows, beside a sum of its words, one after the other", "4.000", check, by_words);
-    print_row("check 7, 10,000 rows, beside a sum of several words at a time", "", check, plain);
+    print_row("check 7, 10,000 rows, beside a plain sum of its words", "4.000", check, plain);
+    print_row("check 7, 10,000 rows, beside a sum of one word after the other", "", check, by_words);
 }
 
 fn close_and_build(slices: &Slices, journal: &[u32]) -> Times {
@@ -161,7 +197,12 @@ fn main() {
     feeds(1024, "0.100");
     feeds(100, "0.200");
     let network = yard::network(1024);
-    drive("drive of 1,000 fixes, 4 neighbouring, a fix", "1.000", &network, &yard::drive(&network, 1000, 4), 5);
+    let fixes = yard::drive(&network, 1000, 4);
+    drive("drive of 1,000 fixes, 4 neighbouring, a fix", "1.000", &network, &fixes, 5);
+    let start = Side { element: 0, side: 0 };
+    route("route, 1024 elements, near", &network, start, Side { element: 34, side: 1 });
+    route("route, 1024 elements, far", &network, start, Side { element: 1023, side: 1 });
+    build("build, drive of 1,000 fixes", &network, &fixes, 21);
     let slices = Slices::of(&network);
     let (mut journal, twice) = (long_journal(&slices, &network, 10_000), long_journal(&slices, &network, 20_000));
     checks(&mut journal);

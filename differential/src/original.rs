@@ -161,6 +161,16 @@ impl Original {
         viterbi::viterbi_decode(candidates, logs, &self.netelements, &self.index, &self.graph, nodes, cache, config).expect("a decoding")
     }
 
+    /// The original's own call, over the cache as it is.
+    pub fn build_path_from_viterbi(&mut self, result: &ViterbiResult, candidates: &[Vec<CandidateNetElement>]) -> Vec<AssociatedNetElement> {
+        let (nodes, cache) = (&self.nodes, &mut self.cache);
+        viterbi::build_path_from_viterbi(result, candidates, &self.netelements, &self.index, &self.graph, nodes, cache).expect("segments")
+    }
+
+    pub fn shortest_path_distance(&self, from: Side, to: Side) -> Option<f64> {
+        graph::shortest_path_distance(&self.graph, &self.nodes, &side_of(from), &side_of(to))
+    }
+
     pub fn clear_cache(&mut self) {
         self.cache.clear();
     }
@@ -203,9 +213,8 @@ impl Core for Original {
     }
 
     fn route(&mut self, from: Side, to: Side) -> Option<Route> {
-        let (from, to) = (side_of(from), side_of(to));
-        let cost = graph::shortest_path_distance(&self.graph, &self.nodes, &from, &to)?;
-        let nodes = graph::shortest_path_route(&self.graph, &self.nodes, &from, &to).expect("a route that has a cost");
+        let cost = self.shortest_path_distance(from, to)?;
+        let nodes = graph::shortest_path_route(&self.graph, &self.nodes, &side_of(from), &side_of(to)).expect("a route that has a cost");
         Some(Route { cost, states: states_of(&self.graph, &nodes) })
     }
 
@@ -232,9 +241,7 @@ impl Core for Original {
         let closed = path.map(|path| ViterbiSubsequence { states: path.states, log_probability: path.score });
         let result = ViterbiResult { subsequences: closed.into_iter().collect(), transition_records: Vec::new() };
         let candidates = position_candidates(&rows.iter().map(|row| &row.fix).collect::<Vec<_>>());
-        let (nodes, cache) = (&self.nodes, &mut self.cache);
-        let built = viterbi::build_path_from_viterbi(&result, &candidates, &self.netelements, &self.index, &self.graph, nodes, cache);
-        Ok(built.expect("segments").iter().map(segment_of).collect())
+        Ok(self.build_path_from_viterbi(&result, &candidates).iter().map(segment_of).collect())
     }
 
     fn collapse(&mut self, list: &[Segment]) -> (Vec<Segment>, Vec<Decision>) {
