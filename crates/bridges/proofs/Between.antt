@@ -67,17 +67,12 @@ module _ (net : Network) (previous next : ℕ) where
   pub between-each : Each (Bridge previous next (count (net .graph))) (between net previous next)
   between-each = by-checks (checked net) refl .each
 
-  -- ---- what inserting them returns, by what the checks say
+  -- ---- what inserting them returns
 
-  module _ {a : Checked} (told : a ≡ checked net) {r : Bridges} where
-    pub insert-accepted : a ≡ Accepted → r ≡ bridgesOf (betweenSides (net .graph) previous next (cheapestOf (routesBy (λ side side′. route (net .graph) previous side next side′)))) →
-        r ≡ bridgesOf (between net previous next)
-    unfolding between
-    insert-accepted e h = rw (sides-accepted net previous next (sym told ∙ e)) h
-
-    pub insert-refused : (k : ℕ) → a ≡ Refused k → r ≡ bridgesOf [] → r ≡ bridgesOf (between net previous next)
-    unfolding between betweenSides
-    insert-refused k e h = rw (sides-refused net previous next k (sym told ∙ e)) h
+  pub insert-accepted : checked net ≡ Accepted → {r : Bridges} → r ≡ bridgesOf (betweenSides (net .graph) previous next (cheapestOf (routesBy (λ side side′. route (net .graph) previous side next side′)))) →
+      r ≡ bridgesOf (between net previous next)
+  unfolding between
+  insert-accepted e h = rw (sides-accepted net previous next e) h
 
 -- ---- what the cheapest side pair gives
 

@@ -8,14 +8,13 @@ use routing::index::index_links;
 use routing::index::no_heads;
 use routing::index::no_nexts;
 use routing::network::Checked;
-use routing::network::check_network;
 use routing::route::Listing;
 use routing::route::route_states;
 use transition::routes::element_routes;
 ghost use mathlib.Core.Path.{_≡_};
 ghost use mathlib.Core.List.{[]};
 ghost use lib.ListN.{length};
-ghost use Rattle.routing.specs.Network.{graphOf, relationsOf, networkOf};
+ghost use Rattle.routing.specs.Network.{graphOf, relationsOf, networkOf, checked};
 ghost use Rattle.routing.specs.Sound.{Sound};
 ghost use Rattle.routing.specs.Index.{Indexed};
 ghost use Rattle.routing.specs.Route.{route, routeStates};
@@ -83,7 +82,7 @@ fn trace_intermediate_netelements(
     }
 }
 
-// The elements between two in a network that was checked, along the cheapest of the routes between their sides. One index serves its three searches.
+// The elements between two in a network that was checked, along the cheapest of the routes between their sides; `heads` and `nexts` are its index.
 fn bridges_between(
     lengths: &[f64],
     from: &[u32],
@@ -92,25 +91,15 @@ fn bridges_between(
     to_side: &[u32],
     forward: &[u32],
     backward: &[u32],
+    heads: &[u16],
+    nexts: &[u16],
     previous: u32,
     next: u32,
 ) -> Bridges
     requires { ⌜ Sound (graphOf (now lengths) (now from) (now to) (now «from_side») (now «to_side») (now forward) (now backward)) ⌝ }
+    requires { ⌜ Indexed (length (now lengths)) (relationsOf (now from) (now to) (now «from_side») (now «to_side») (now forward) (now backward)) 0 (now heads) (now nexts) ⌝ }
     ensures { λ r. ⌜ r ≡ bridgesOf (betweenSides (graphOf (now (lengths .entry)) (now (from .entry)) (now (to .entry)) (now («from_side» .entry)) (now («to_side» .entry)) (now (forward .entry)) (now (backward .entry))) previous next (cheapestOf (routesBy (λ side side′. route (graphOf (now (lengths .entry)) (now (from .entry)) (now (to .entry)) (now («from_side» .entry)) (now («to_side» .entry)) (now (forward .entry)) (now (backward .entry))) previous side next side′)))) ⌝ }
 {
-    let mut heads = no_heads();
-    let mut nexts = no_nexts();
-    index_links(
-        lengths,
-        from,
-        to,
-        from_side,
-        to_side,
-        forward,
-        backward,
-        &mut heads,
-        &mut nexts,
-    );
     let routes = element_routes(
         lengths,
         from,
@@ -119,8 +108,8 @@ fn bridges_between(
         to_side,
         forward,
         backward,
-        &heads,
-        &nexts,
+        heads,
+        nexts,
         previous,
         next,
     );
@@ -138,8 +127,8 @@ fn bridges_between(
                 to_side,
                 forward,
                 backward,
-                &heads,
-                &nexts,
+                heads,
+                nexts,
                 previous,
                 leaving,
                 next,
@@ -150,8 +139,8 @@ fn bridges_between(
     }
 }
 
-// The elements between two, along the cheapest of the routes between their sides; none where no route is, or the cheapest costs under 1e-9, or the
-// network is refused.
+// The elements between two, along the cheapest of the routes between their sides; none where no route is, or the cheapest costs under 1e-9. The network
+// was checked, and one index serves the three searches.
 pub fn insert_bridges(
     lengths: &[f64],
     headings: &[f64],
@@ -165,31 +154,33 @@ pub fn insert_bridges(
     previous: u32,
     next: u32,
 ) -> Bridges
+    requires { ⌜ checked (networkOf (now lengths) (now headings) (now flags) (now from) (now to) (now «from_side») (now «to_side») (now forward) (now backward)) ≡ Checked.Accepted ⌝ }
     ensures { λ r. ⌜ r ≡ bridgesOf (between (networkOf (now (lengths .entry)) (now (headings .entry)) (now (flags .entry)) (now (from .entry)) (now (to .entry)) (now («from_side» .entry)) (now («to_side» .entry)) (now (forward .entry)) (now (backward .entry))) previous next) ⌝ }
 {
-    let answer = check_network(
+    let mut heads = no_heads();
+    let mut nexts = no_nexts();
+    index_links(
         lengths,
-        headings,
-        flags,
         from,
         to,
         from_side,
         to_side,
         forward,
         backward,
+        &mut heads,
+        &mut nexts,
     );
-    match answer {
-        Checked::Accepted => bridges_between(
-            lengths,
-            from,
-            to,
-            from_side,
-            to_side,
-            forward,
-            backward,
-            previous,
-            next,
-        ),
-        Checked::Refused(_) => no_bridges(),
-    }
+    bridges_between(
+        lengths,
+        from,
+        to,
+        from_side,
+        to_side,
+        forward,
+        backward,
+        &heads,
+        &nexts,
+        previous,
+        next,
+    )
 }
