@@ -44,7 +44,7 @@ use Rattle.segments.specs.Building.{refusing, endOf, Stands, OpenedBy, O
 module _ (net : Network) (s : List ℕ) (room : ℕ) where
   refusing-stands : (k : ℕ) → Stands net s (refusing k)
   unfolding refusing built
-  refusing-stands k = record { reached = λ m. clash m refl; left = refl; waits = omega arith; few = omega arith }
+  refusing-stands k = record { accepted = λ l. absurd (omega (arith, l)); reached = λ m. clash m refl; left = refl; waits = omega arith; few = omega arith }
 
   pub opened-refused : (k : ℕ) → (k ≡ 0 → ⊥) → {b : Building} → b ≡ refusing k → OpenedBy (refused k) net s room b
   unfolding refusing built endOf answered stored
@@ -71,12 +71,12 @@ module _ (net : Network) (s : List ℕ) (room rows used place count : ℕ) (h : 
         let full : leb (length (built net (groupsLeft s t))) room ≡ false = lt-leb (length (built net (groupsLeft s t))) room (omega arith) in
         rw (all-segments, full) (opened-refused net s room 15 (λ z. omega arith) k)
 
-    pub opened-all : n ≤ room → (out : Segment) → OpenedAt net s room (record { refusal = 0; count = n; left = n; waiting = 0; trail = t; out = out })
+    pub opened-all : checked net ≡ Accepted → n ≤ room → (out : Segment) → OpenedAt net s room (record { refusal = 0; count = n; left = n; waiting = 0; trail = t; out = out })
     unfolding fitted
-    opened-all l out =
+    opened-all accepted l out =
         let fits : leb (length (built net (groupsLeft s t))) room ≡ true = le-leb (length (built net (groupsLeft s t))) room (omega arith) in
         rw (all-segments, fits) (record {
-          stands = record { reached = λ _. b .reached; left = q ∙ sym (ap length whole); waits = omega arith; few = omega arith };
+          stands = record { accepted = λ _. accepted; reached = λ _. b .reached; left = q ∙ sym (ap length whole); waits = omega arith; few = omega arith };
           within = l;
           ends = unfold endOf answered in rw q;
           list = λ buffer. unfold stored in rw (whole, q);

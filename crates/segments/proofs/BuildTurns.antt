@@ -28,7 +28,7 @@ turned-by : (net : Network) (s : List ℕ) (b r : Building) → Stands net s b
 turned-by net s b r h reached waits few split left ends =
     let before = length-snoc (toCome net s b) (toCome net s r) (r .out) (b .left) (h .left) split in
     record {
-      stands = record { reached = reached; left = omega arith; waits = waits; few = few };
+      stands = record { accepted = λ l. h .accepted (omega arith); reached = reached; left = omega arith; waits = waits; few = few };
       split = split;
       less = omega arith;
       ends = ends;

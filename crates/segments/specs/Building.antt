@@ -6,7 +6,8 @@ use mathlib.Core.List.{List, [], _∷_, _++_, map}
 use lib.Dec.{eqb}
 use lib.ListN.{length, take, drop}
 use Rattle.binary64.specs.Values.{pzero}
-use Rattle.routing.specs.Network.{Network, count}
+use Rattle.routing.specs.Network.{Network, checked}
+use Rattle.routing.specs.declared.network.Checked.the-variants.{Accepted}
 use Rattle.closing.specs.Walk.{standing, Reached}
 use Rattle.bridges.specs.Found.{bridgesOf}
 use Rattle.segments.specs.declared.segment.Segment.{Segment}
@@ -40,8 +41,9 @@ refusing k = record {
 unfoldable pub endOf : Building → Built
 endOf b = cond (eqb (b .refusal) 0) (Segments (b .count)) (Refused (b .refusal))
 
--- as many are left as are to come, and the walk stands at a place of the journal
+-- as many are left as are to come, and the walk stands at a place of the journal; where some are left the network was accepted
 pub record Stands (net : Network) (s : List ℕ) (b : Building) : Type 0 where
+  pub accepted : 0 < b .left → checked net ≡ Accepted
   pub reached : b .trail .more ≡ true → Reached s (b .trail .back)
   pub left : b .left ≡ length (toCome net s b)
   pub waits : b .waiting ≤ length (b .trail .bridges .elements)

@@ -102,7 +102,7 @@ fn nothing_left(refusal: u32) -> Building
     }
 }
 
-// From the last scoring row, of `candidates`, whose record starts at a place of the journal: check 15.
+// From the last scoring row, of `candidates`, whose record starts at a place of the journal: check 15, on a network that was checked.
 fn begin_at(
     lengths: &[f64],
     headings: &[f64],
@@ -120,6 +120,7 @@ fn begin_at(
     candidates: usize,
     room: usize,
 ) -> Building
+    requires { ⌜ checked (networkOf (now lengths) (now headings) (now flags) (now from) (now to) (now «from_side») (now «to_side») (now forward) (now backward)) ≡ Checked.Accepted ⌝ }
     requires { ⌜ Scoring (now journal) standing used place candidates ⌝ }
     ensures { λ r. ⌜ OpenedAt (networkOf (now (lengths .entry)) (now (headings .entry)) (now (flags .entry)) (now (from .entry)) (now (to .entry)) (now («from_side» .entry)) (now («to_side» .entry)) (now (forward .entry)) (now (backward .entry))) (now (journal .entry)) room r ⌝ }
 {

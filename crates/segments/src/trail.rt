@@ -5,10 +5,11 @@ use bridges::insert::no_bridges;
 use closing::walk::Back;
 use groups::gather::gather_group;
 use groups::group::NetelementGroup;
+use routing::network::Checked;
 ghost use mathlib.Core.Path.{_≡_};
 ghost use mathlib.Core.List.{[]};
 ghost use lib.ListN.{length};
-ghost use Rattle.routing.specs.Network.{networkOf};
+ghost use Rattle.routing.specs.Network.{networkOf, checked};
 ghost use Rattle.closing.specs.Walk.{Reached};
 ghost use Rattle.segments.specs.Build.{built};
 ghost use Rattle.segments.specs.Trail.{Begun, Stepped, groupsLeft};
@@ -38,7 +39,7 @@ pub fn last_group(journal: &[u32], start: Back) -> Trail
     }
 }
 
-// The group before, with its bridges.
+// The group before, with its bridges, on a network that was checked.
 pub fn previous_group(
     lengths: &[f64],
     headings: &[f64],
@@ -52,6 +53,7 @@ pub fn previous_group(
     journal: &[u32],
     t: Trail,
 ) -> Trail
+    requires { ⌜ checked (networkOf (now lengths) (now headings) (now flags) (now from) (now to) (now «from_side») (now «to_side») (now forward) (now backward)) ≡ Checked.Accepted ⌝ }
     requires { ⌜ Reached (now journal) (t .back) ⌝ }
     ensures { λ r. ⌜ Stepped (networkOf (now (lengths .entry)) (now (headings .entry)) (now (flags .entry)) (now (from .entry)) (now (to .entry)) (now («from_side» .entry)) (now («to_side» .entry)) (now (forward .entry)) (now (backward .entry))) (now (journal .entry)) t r ⌝ }
 {
@@ -84,7 +86,7 @@ pub fn previous_group(
     found
 }
 
-// How many segments there are: one for each group, and one for each bridge.
+// How many segments there are, on a network that was checked: one for each group, and one for each bridge.
 pub fn count_segments(
     lengths: &[f64],
     headings: &[f64],
@@ -98,6 +100,7 @@ pub fn count_segments(
     journal: &[u32],
     start: Trail,
 ) -> usize
+    requires { ⌜ checked (networkOf (now lengths) (now headings) (now flags) (now from) (now to) (now «from_side») (now «to_side») (now forward) (now backward)) ≡ Checked.Accepted ⌝ }
     requires { ⌜ Reached (now journal) (start .back) ⌝ }
     ensures { λ r. ⌜ r ≡ length (built (networkOf (now (lengths .entry)) (now (headings .entry)) (now (flags .entry)) (now (from .entry)) (now (to .entry)) (now («from_side» .entry)) (now («to_side» .entry)) (now (forward .entry)) (now (backward .entry))) (groupsLeft (now (journal .entry)) start)) ⌝ }
 {

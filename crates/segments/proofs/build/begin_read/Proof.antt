@@ -43,7 +43,9 @@ enum-known-latest : tie.Need-enum-known-latest
 enum-known-latest c = search needs
 
 begin-at-requires : tie.Need-begin-at-requires
-begin-at-requires c κs = last-found (sym (c .before .before .before .before .before .before .before .before .read-journal .ensures) ∙ c .before .before .before .before .before .before .found .given .1) (c .before .latest .given .1)
+begin-at-requires c κs =
+    let start = c .before .before .before .before .before .before .before .before .before .before .before .before .before .before .before .before .before .before .before in
+    (start .pre, last-found (sym (c .before .before .before .before .before .before .before .before .read-journal .ensures) ∙ c .before .before .before .before .before .before .found .given .1) (c .before .latest .given .1))
 
 returns-2 : tie.Need-returns-2
 returns-2 c = opened-not _ _ _ (c .before .before .before .before .before .before .before .before .before .before .before .before .before .before .pre) (sym (c .before .before .before .read-journal .ensures) ∙ c .before .enum-told .given .1) (c .nothing-left .ensures)

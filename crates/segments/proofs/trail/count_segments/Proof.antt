@@ -14,10 +14,10 @@ abbrev μ-loop : tie.MeasureT-loop
 μ-loop lengths headings flags from to from-side to-side forward backward journal t₀ n₀ t n = cond (t .more) (suc (t .back .rows)) 0
 
 loop-holds : tie.Need-loop-holds Inv-loop μ-loop
-loop-holds c = counting-begin _ _ _ (c .before .before .before .before .before .before .before .before .before .before .pre)
+loop-holds c = counting-begin _ _ _ (c .before .before .before .before .before .before .before .before .before .before .pre .1)
 
 previous-group-requires : tie.Need-previous-group-requires Inv-loop μ-loop
-previous-group-requires c κs = c .before .loop .inv .reached
+previous-group-requires c κs = (c .before .before .before .before .before .before .before .before .before .before .before .before .pre .0, c .before .loop .inv .reached)
 
 add-n : tie.Need-add-n Inv-loop μ-loop
 add-n c = omega (arith, (counting-turn _ _ _ _ _ (c .before .before .before .before .loop .inv) (c .before .before .before .loop-test .taken) (c .before .before .previous-group .ensures)) .small)
