@@ -6,8 +6,8 @@ use mathlib.Core.List.{List, reverse}
 use Prim.Native.Nat.{ℕ, zero, suc, _*_, _<_}
 use native.Mathlib.Omega.{arith}
 use lib.Dec.{T, ltb}
-use lib.ListN.{length, getD, set, length-replicate, length-reverse}
-use lib.Ieee.{Float, nan, inf, lt}
+use lib.ListN.{length, getD, set, length-reverse}
+use lib.Ieee.{Float, nan, lt}
 use borrow.Author.Tests.{ltb-true}
 use Rattle.lists.proofs.Loops.{and-both}
 use Rattle.binary64.specs.Values.{pzero}

@@ -16,7 +16,7 @@ use Rattle.routing.proofs.Turns.{below, turn-less, room-same}
 use Rattle.routing.proofs.Served.{Served, served-begins, served-reached, served-none, served-on}
 
 abbrev Inv-loop : tie.InvT-loop
-Inv-loop costs₀ preds₀ marks₀ leaders₀ keys₀ lengths from to from-side to-side forward backward heads nexts goals found₀ waiting₀ costs preds marks leaders keys found waiting = 
+Inv-loop costs₀ preds₀ marks₀ leaders₀ keys₀ lengths from to from-side to-side forward backward heads nexts goals found₀ waiting₀ costs preds marks leaders keys found waiting =
     (length costs ≡ length costs₀)
     × (length preds ≡ length preds₀)
     × (length marks ≡ length marks₀)
@@ -31,10 +31,9 @@ Inv-loop costs₀ preds₀ marks₀ leaders₀ keys₀ lengths from to from-side
     × (waiting ≡ 0 → (k : ℕ) → k < length goals → lt (getD found k nan) (inf false) ≡ true)
 
 abbrev μ-loop : tie.MeasureT-loop
-μ-loop costs₀ preds₀ marks₀ leaders₀ keys₀ lengths from to from-side to-side forward backward heads nexts goals found₀ waiting₀ costs preds marks leaders keys found waiting = 
+μ-loop costs₀ preds₀ marks₀ leaders₀ keys₀ lengths from to from-side to-side forward backward heads nexts goals found₀ waiting₀ costs preds marks leaders keys found waiting =
     left marks (4 * length lengths)
 
--- <helpers>
 -- ---- a turn that picked a state
 
 graph-at : tie.Start Inv-loop μ-loop → Graph
@@ -63,7 +62,6 @@ module _ (c : tie.After-known-told Inv-loop μ-loop) where
 
   s-below : s < 4 * length (g .lengths)
   s-below = below g 0 q s fits picked
--- </helpers>
 
 loop-holds : tie.Need-loop-holds Inv-loop μ-loop
 loop-holds c = (refl, refl, refl, refl, refl, refl, c .before .before .before .before .before .before .before .before .before .before .before .before .before .before .before .before .pre .1 .1 .0, λ k h. served-begins _ _ _ (c .before .before .before .before .before .before .before .before .before .before .before .before .before .before .before .before .pre .1 .1 .1 .1 .1 k h), λ z k h. absurd (omega (arith, z, h)))

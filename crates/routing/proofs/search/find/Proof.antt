@@ -13,7 +13,7 @@ use Rattle.routing.proofs.search.find.Tie as tie
 use Rattle.routing.proofs.Turns.{below, turn-found, turn-less, turn-on, run-none, room-same}
 
 abbrev Inv-loop : tie.InvT-loop
-Inv-loop costs₀ preds₀ marks₀ leaders₀ keys₀ lengths from to from-side to-side forward backward heads nexts goal costs preds marks leaders keys = 
+Inv-loop costs₀ preds₀ marks₀ leaders₀ keys₀ lengths from to from-side to-side forward backward heads nexts goal costs preds marks leaders keys =
     (length costs ≡ length costs₀)
     × (length preds ≡ length preds₀)
     × (length marks ≡ length marks₀)
@@ -26,7 +26,6 @@ Inv-loop costs₀ preds₀ marks₀ leaders₀ keys₀ lengths from to from-side
 abbrev μ-loop : tie.MeasureT-loop
 μ-loop costs₀ preds₀ marks₀ leaders₀ keys₀ lengths from to from-side to-side forward backward heads nexts goal costs preds marks leaders keys = left marks (4 * length lengths)
 
--- <helpers>
 -- ---- a turn that picked a state
 
 graph-at : tie.Start Inv-loop μ-loop → Graph
@@ -55,7 +54,6 @@ module _ (c : tie.After-known-told Inv-loop μ-loop) where
 
   s-below : s < 4 * length (g .lengths)
   s-below = below g (c .before .before .before .before .before .before .before .before .before .before .before .before .before .before .before .before .before .before .before .before .before .before .before .args .goal) q s fits picked
--- </helpers>
 
 loop-holds : tie.Need-loop-holds Inv-loop μ-loop
 loop-holds c = (refl, refl, refl, refl, refl, c .before .before .before .before .before .before .before .before .before .before .before .before .before .before .pre .1 .1 .0, refl)

@@ -14,7 +14,7 @@ use Rattle.routing.proofs.Turns.{room-same}
 use Rattle.routing.proofs.Chains.{Followed, chain-begins, chain-lands, chain-rises, chain-on, chain-done}
 
 abbrev Inv-loop : tie.InvT-loop
-Inv-loop costs₀ preds₀ marks leaders₀ keys₀ elements from to from-side to-side forward backward heads nexts v d e₀ costs preds leaders keys e = 
+Inv-loop costs₀ preds₀ marks leaders₀ keys₀ elements from to from-side to-side forward backward heads nexts v d e₀ costs preds leaders keys e =
     (length costs ≡ length costs₀)
     × (length preds ≡ length preds₀)
     × (length leaders ≡ length leaders₀)
@@ -23,7 +23,7 @@ Inv-loop costs₀ preds₀ marks leaders₀ keys₀ elements from to from-side t
     × Followed elements (relationsOf from to from-side to-side forward backward) v d (tables costs₀ preds₀) e (tables costs preds)
 
 abbrev μ-loop : tie.MeasureT-loop
-μ-loop costs₀ preds₀ marks leaders₀ keys₀ elements from to from-side to-side forward backward heads nexts v d e₀ costs preds leaders keys e = 
+μ-loop costs₀ preds₀ marks leaders₀ keys₀ elements from to from-side to-side forward backward heads nexts v d e₀ costs preds leaders keys e =
     2 * length from - e
 
 mul-link-number : tie.Need-mul-link-number Inv-loop μ-loop
