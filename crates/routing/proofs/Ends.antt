@@ -25,7 +25,7 @@ use Rattle.routing.proofs.Runs.{run-ends}
 use Rattle.routing.proofs.Kept.{begun-full}
 use Rattle.routing.proofs.WalkCosts.{Ranged, walk-cost, cost-finite}
 use Rattle.routing.proofs.Relaxing.{costAt}
-use Rattle.routing.proofs.LeastPick.{never}
+use Rattle.routing.proofs.Least.{never}
 use Rattle.routing.proofs.Traces.{begin}
 use Rattle.routing.proofs.Settling.{isSettled, Reached, UnderWay, bound, least-next, s-reached, turn-keeps}
 

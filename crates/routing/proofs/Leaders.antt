@@ -1,10 +1,9 @@
--- Laws of the leaders of all groups and blocks: they are kept when a cost is lowered and found again when a state is settled, and a search begins with
--- them; what is picked among the blocks' leaders is what is picked among all states. Assumes nothing.
-use mathlib.Core.Path.{_≡_, refl, sym, ap, subst, _∙_}
-use mathlib.Core.Bool.{Bool, true, false, not}
+-- Laws of the leaders of all groups and blocks: they are kept when a cost is lowered and found again when a state is settled, a search begins with
+-- them, and the blocks' leaders lead all states. Assumes nothing.
+use mathlib.Core.Path.{_≡_, refl, ap}
+use mathlib.Core.Bool.{Bool, true, false, cond, not}
 use mathlib.Core.List.{List}
-use mathlib.Core.Logic.{inl, inr}
-use Prim.Native.Nat.{ℕ, _+_, _-_, _*_, _/_, _<_, _≤_, min}
+use Prim.Native.Nat.{ℕ, _+_, _*_, _/_, _<_, _≤_}
 use native.Mathlib.Decide.{ℕ-discrete}
 use native.Mathlib.Omega.{arith}
 use lib.Dec.{T}
@@ -12,301 +11,231 @@ use lib.ListN.{length, getD, set, length-set, length-replicate, getD-replicate}
 use lib.Seq.{getD-set-same, getD-set-other}
 use lib.Ieee.{Float, nan, inf, lt, le, isNan}
 use Rattle.binary64.specs.Values.{pzero}
-use Rattle.routing.specs.declared.search.Pick.{Pick}
-use Rattle.routing.specs.Search.{better, pickOf, noCosts, noMarks}
-use Rattle.routing.specs.Blocks.{leader, Leads, Between, endOf, groupOf, blockOf, Inside, Led, groupLeader, blockLeader, noBlocks, Groups, Blocks, groupWith, blockWith, Listed, Comparable}
-use Rattle.routing.proofs.Turns.{repeated, unmarked}
-use Rattle.routing.proofs.Ranges.{leader-either, leader-from, leader-leads, leads-fewer, leads-itself, leads-on, leads-done, lowered-number, first-lowered, first-marked, picked-same, picked-better, pick-picked}
+use Rattle.binary64.proofs.Order.{le-left, lt→le}
+use Rattle.routing.specs.declared.search.Pick.the-variants.{At, Nothing}
+use Rattle.routing.specs.declared.blocks.Leader.{Leader}
+use Rattle.routing.specs.Search.{pickOf, noCosts, noMarks}
+use Rattle.routing.specs.Blocks.{keyOf, Least, earliest, stateLeader, lowered, entryAt, noLeaders, noKeys, GroupsLed, BlocksLed, Led, Blocks}
+use Rattle.routing.proofs.Turns.{unmarked}
+use Rattle.routing.proofs.Least.{least-earliest, least-at, least-states, least-fewer, least-still, least-lowered}
+use Rattle.routing.proofs.LeastPick.{pick-led}
 
--- ---- the leaders of all ranges
+-- ---- an entry is written
 
--- a state of another range is another state
-elsewhere : (range : ℕ → ℕ) (x i k : ℕ) → range i ≡ k → (k ≡ range x → ⊥) → i ≡ x → ⊥
-elsewhere range x i k w ne e = ne (sym w ∙ ap range e)
+module _ (leaders : List ℕ) (keys : List Float) (at : ℕ) (l : Leader) where
+  entry-here : at < length leaders → at < length keys → entryAt (set leaders at (l .state)) (set keys at (l .key)) at ≡ l
+  unfolding entryAt
+  entry-here h g = rw (getD-set-same leaders at (l .state) 0 h, getD-set-same keys at (l .key) nan g) refl
 
-module _ (n : ℕ) (range : ℕ → ℕ) {costs : List Float} {marks : List Bool} {leaders : ℕ → ℕ} (L : Led n range costs marks leaders) where
-  -- a range as the code has it, from `low` to before `end`
-  range-led : (k low end : ℕ) → low < n → range low ≡ k → ((x : ℕ) → Between low end x → Inside n range k x) → ((x : ℕ) → Inside n range k x → Between low end x) →
-      Between low end (leaders k) × Leads costs marks (Between low end) (leaders k)
-  range-led k low end h e inside back = (
-    back _ (subst (λ x. Inside n range x (leaders x)) e (L .within low h)),
-    leads-fewer _ _ _ _ _ inside (subst (λ x. Leads costs marks (Inside n range x) (leaders x)) e (L .leads low h)),
-  )
+  pub entry-other : (k : ℕ) → (k ≡ at → ⊥) → entryAt (set leaders at (l .state)) (set keys at (l .key)) k ≡ entryAt leaders keys k
+  unfolding entryAt
+  entry-other k ne = rw (getD-set-other leaders at k (l .state) 0 ne, getD-set-other keys at k (l .key) nan ne) refl
 
-  module _ {after : ℕ → ℕ} where
-    led-same : ((i : ℕ) → i < n → after (range i) ≡ leaders (range i)) → Led n range costs marks after
-    led-same same =
+-- ---- from entries to the leader of what they lead
+
+module _ {key : ℕ → Float} (leaders : List ℕ) (keys : List Float) where
+  block-least : GroupsLed key leaders keys → (b : ℕ) → b < 16 → Least key (256 * b) (256 * b + 256) (earliest 16 (λ k. entryAt leaders keys (16 + 16 * b + k)))
+  block-least G b h =
+      least-at (omega arith) (omega arith) refl
+      (least-earliest key (λ k. 256 * b + 16 * k) (λ k. entryAt leaders keys (16 + 16 * b + k)) (λ k. omega arith) (λ k. omega arith) 16
+      (λ k l. least-at (omega arith) (omega arith) (ap (entryAt leaders keys) (omega arith)) (G (16 * b + k) (omega arith))))
+
+  all-least : BlocksLed key leaders keys → Least key 0 4096 (earliest 16 (λ k. entryAt leaders keys (0 + k)))
+  all-least B =
+      least-at (omega arith) (omega arith) refl
+      (least-earliest key (λ k. 256 * k) (λ k. entryAt leaders keys (0 + k)) (λ k. omega arith) (λ k. omega arith) 16
+      (λ k l. least-at refl (omega arith) (ap (entryAt leaders keys) (omega arith)) (B k l)))
+
+-- ---- the key of the state s changes, and its group and then its block get a leader
+
+module _ {key key′ : ℕ → Float} (s : ℕ) (known : s < 4096) (same : (x : ℕ) → (x ≡ s → ⊥) → key′ x ≡ key x) (leaders : List ℕ) (keys : List Float)
+    (room : (272 ≤ length leaders) × (272 ≤ length keys)) where
+  groups-put : GroupsLed key leaders keys → (l : Leader) → Least key′ (16 * (s / 16)) (16 * (s / 16) + 16) l →
+      GroupsLed key′ (set leaders (16 + s / 16) (l .state)) (set keys (16 + s / 16) (l .key))
+  groups-put G l L g h =
+      elim (ℕ-discrete g (s / 16)) [
+        | yes e ↦ rw (e, entry-here leaders keys (16 + s / 16) l (omega (arith, room)) (omega (arith, room))) L
+        | no ne ↦ rw (entry-other leaders keys (16 + s / 16) l (16 + g) (λ e. ne (omega arith))) (least-still (λ i f t. same i (λ e. ne (omega arith))) (G g h))
+      ]
+
+  blocks-put : BlocksLed key leaders keys → (m : Leader) → Least key′ (256 * (s / 256)) (256 * (s / 256) + 256) m →
+      BlocksLed key′ (set leaders (s / 256) (m .state)) (set keys (s / 256) (m .key))
+  blocks-put B m M b h =
+      elim (ℕ-discrete b (s / 256)) [
+        | yes e ↦ rw (e, entry-here leaders keys (s / 256) m (omega (arith, room)) (omega (arith, room))) M
+        | no ne ↦ rw (entry-other leaders keys (s / 256) m b ne) (least-still (λ i f t. same i (λ e. ne (omega arith))) (B b h))
+      ]
+
+module _ {key : ℕ → Float} (leaders : List ℕ) (keys : List Float) (s : ℕ) (known : s < 4096) (l : Leader) where
+  groups-kept : GroupsLed key leaders keys → GroupsLed key (set leaders (s / 256) (l .state)) (set keys (s / 256) (l .key))
+  groups-kept G g h = rw (entry-other leaders keys (s / 256) l (16 + g) (λ e. omega arith)) (G g h)
+
+  blocks-kept : BlocksLed key leaders keys → BlocksLed key (set leaders (16 + s / 16) (l .state)) (set keys (16 + s / 16) (l .key))
+  blocks-kept B b h = rw (entry-other leaders keys (16 + s / 16) l b (λ e. omega arith)) (B b h)
+
+module _ {costs : List Float} {marks : List Bool} {leaders : List ℕ} {keys : List Float} (L : Led costs marks leaders keys) (s : ℕ) (known : s < 4096)
+    (costs′ : List Float) (marks′ : List Bool) (same : (x : ℕ) → (x ≡ s → ⊥) → keyOf costs′ marks′ x ≡ keyOf costs marks x)
+    (l : Leader) (G : Least (keyOf costs′ marks′) (16 * (s / 16)) (16 * (s / 16) + 16) l)
+    {leaders′ : List ℕ} {keys′ : List Float} (put-leader : leaders′ ≡ set leaders (16 + s / 16) (l .state)) (put-key : keys′ ≡ set keys (16 + s / 16) (l .key)) where
+  put-groups : GroupsLed (keyOf costs′ marks′) leaders′ keys′
+  put-groups = rw (put-leader, put-key) (groups-put s known same leaders keys (L .entries) (L .groups) l G)
+
+  put-entries : (272 ≤ length leaders′) × (272 ≤ length keys′)
+  put-entries = rw (put-leader, put-key) (simp length-set (L .entries))
+
+  put-block : entryAt leaders′ keys′ (s / 256) ≡ entryAt leaders keys (s / 256)
+  put-block = rw (put-leader, put-key) (entry-other leaders keys (16 + s / 16) l (s / 256) (λ e. omega arith))
+
+  module _ (tables : (4096 ≤ length costs′) × (4096 ≤ length marks′)) (numbers : (i : ℕ) → i < 4096 → T (not (isNan (getD costs′ i nan))))
+      (m : Leader) (B : Least (keyOf costs′ marks′) (256 * (s / 256)) (256 * (s / 256) + 256) m)
+      {leaders″ : List ℕ} {keys″ : List Float} (put-leader′ : leaders″ ≡ set leaders′ (s / 256) (m .state)) (put-key′ : keys″ ≡ set keys′ (s / 256) (m .key)) where
+    led-put : Led costs′ marks′ leaders″ keys″
+    led-put =
         record {
-          within = λ i h. rw (same i h) (L .within i h);
-          leads = λ i h. rw (same i h) (L .leads i h);
+          tables = tables;
+          entries = rw (put-leader′, put-key′) (simp length-set put-entries);
+          numbers = numbers;
+          groups = rw (put-leader′, put-key′) (groups-kept leaders′ keys′ s known m put-groups);
+          blocks = rw (put-leader′, put-key′) (blocks-put s known same leaders′ keys′ put-entries
+              (rw (put-leader, put-key) (blocks-kept leaders keys s known l (L .blocks))) m B);
         }
 
-    -- the range of s gets a leader, in tables in which every other range keeps its own
-    module _ (s : ℕ) (others : (i : ℕ) → i < n → (range i ≡ range s → ⊥) → after (range i) ≡ leaders (range i)) where
-      led-set : {costs′ : List Float} {marks′ : List Bool} {j : ℕ} → after (range s) ≡ j → Inside n range (range s) j → Leads costs′ marks′ (Inside n range (range s)) j →
-          ((i : ℕ) → i < n → (range i ≡ range s → ⊥) → Leads costs′ marks′ (Inside n range (range i)) (leaders (range i))) → Led n range costs′ marks′ after
-      led-set here inside leads still =
-          record {
-            within = λ i h. elim (ℕ-discrete (range i) (range s)) [
-              | yes e ↦ rw (e, here) inside
-              | no ne ↦ rw (others i h ne) (L .within i h)
-            ];
-            leads = λ i h. elim (ℕ-discrete (range i) (range s)) [
-              | yes e ↦ rw (e, here) leads
-              | no ne ↦ rw (others i h ne) (still i h ne)
-            ];
-          }
+-- ---- a state is settled
 
-      module _ (known : s < n) where
-        -- its cost is lowered
-        led-lowered : (c : Float) → s < length costs → T (lt c (getD costs s nan)) → T (not (isNan (getD costs s nan))) →
-            after (range s) ≡ leader (set costs s c) marks (leaders (range s)) s → Led n range (set costs s c) marks after
-        led-lowered c room less number here =
-            let but : Leads (set costs s c) marks (λ x. Inside n range (range s) x × (x ≡ s → ⊥)) (leaders (range s)) =
-            record { first = λ i w o. first-lowered costs marks s c room less _ i (w .1) (L .leads s known .first i (w .0) o) } in
-            let own = lowered-number costs marks s c room less s number in
-            led-set here
-            (leader-either (Inside n range (range s)) _ _ _ _ (L .within s known) (known, refl))
-            (leads-fewer _ _ _ _ _ (λ x w. elim (ℕ-discrete x s) [ yes i ↦ inl i | no ne ↦ inr (w, ne) ])
-            (leader-leads _ _ _ (λ x. x ≡ s) _ s own but (leads-itself _ _ s own)))
-            (λ k h ne. record { first = λ i w o. first-lowered costs marks s c room less _ i (elsewhere range s i (range k) (w .1) ne) (L .leads k h .first i w o) })
+module _ {costs : List Float} {marks : List Bool} {leaders : List ℕ} {keys : List Float} (L : Led costs marks leaders keys) (s : ℕ) (known : s < 4096) where
+  marked-same : (x : ℕ) → (x ≡ s → ⊥) → keyOf costs (set marks s true) x ≡ keyOf costs marks x
+  unfolding keyOf
+  marked-same x ne = rw (getD-set-other marks s x true false ne)
 
-        -- it is settled
-        led-marked : {j : ℕ} → after (range s) ≡ j → Inside n range (range s) j → Leads costs (set marks s true) (Inside n range (range s)) j →
-            Led n range costs (set marks s true) after
-        led-marked here inside leads =
-            led-set here inside leads
-            (λ k h ne. record {
-              first = λ i w o. first-marked costs marks s _ i (elsewhere range s _ (range k) (L .within k h .1) ne)
-                  (L .leads k h .first i w (sym (getD-set-other marks s i true false (elsewhere range s i (range k) (w .1) ne)) ∙ o));
-            })
+  pub led-marked : (l : Leader) → l ≡ earliest 16 (λ k. stateLeader costs (set marks s true) (16 * (s / 16) + k)) → {leaders′ : List ℕ} {keys′ : List Float} →
+      leaders′ ≡ set leaders (16 + s / 16) (l .state) → keys′ ≡ set keys (16 + s / 16) (l .key) →
+      (m : Leader) → m ≡ earliest 16 (λ k. entryAt leaders′ keys′ (16 + 16 * (s / 256) + k)) → {leaders″ : List ℕ} {keys″ : List Float} →
+      leaders″ ≡ set leaders′ (s / 256) (m .state) → keys″ ≡ set keys′ (s / 256) (m .key) → Led costs (set marks s true) leaders″ keys″
+  led-marked l e {leaders′} {keys′} put-leader put-key m f put-leader′ put-key′ =
+      let G : Least (keyOf costs (set marks s true)) (16 * (s / 16)) (16 * (s / 16) + 16) l =
+      rw e (least-states costs (set marks s true) (16 * (s / 16)) 16 (λ i h. L .numbers i (omega arith))) in
+      led-put L s known costs (set marks s true) marked-same l G put-leader put-key
+      (L .tables .0, simp length-set (L .tables .1)) (L .numbers)
+      m (rw f (block-least leaders′ keys′ (put-groups L s known costs (set marks s true) marked-same l G put-leader put-key) (s / 256) (omega arith))) put-leader′ put-key′
 
--- ---- the entries of a state's group and of its block are written
+-- ---- a cost is lowered
 
--- an entry that counts from `low`
-entry-here : (low : ℕ) (blocks : List ℕ) (at j : ℕ) → at < length blocks → low ≤ j → low + getD (set blocks at (j - low)) at 0 ≡ j
-entry-here low blocks at j h l = rw (getD-set-same blocks at (j - low) 0 h) (omega arith)
+module _ {costs : List Float} {marks : List Bool} {leaders : List ℕ} {keys : List Float} (L : Led costs marks leaders keys) (s : ℕ) (known : s < 4096)
+    (c : Float) (less : T (lt c (getD costs s nan))) where
+  lowered-numbers : (i : ℕ) → i < 4096 → T (not (isNan (getD (set costs s c) i nan)))
+  lowered-numbers i h =
+      elim (ℕ-discrete i s) [
+        | yes e ↦ rw (e, getD-set-same costs s c nan (omega (arith, L .tables))) (le-left _ _ (lt→le _ _ less))
+        | no ne ↦ rw (getD-set-other costs s i c nan ne) (L .numbers i h)
+      ]
 
-entry-other : (low : ℕ) (blocks : List ℕ) (at k v : ℕ) → (k ≡ at → ⊥) → low + getD (set blocks at v) k 0 ≡ low + getD blocks k 0
-entry-other low blocks at k v ne = rw (getD-set-other blocks at k v 0 ne)
+  lowered-tables : (4096 ≤ length (set costs s c)) × (4096 ≤ length marks)
+  lowered-tables = (simp length-set (L .tables .0), L .tables .1)
 
--- the entry of a state's block is not that of its group
-block-kept : (blocks : List ℕ) (i v : ℕ) → blockLeader (set blocks (16 + i / 16) v) (i / 256) ≡ blockLeader blocks (i / 256)
-unfolding blockLeader
-block-kept blocks i v = entry-other _ blocks _ _ _ (λ e. omega arith)
+  lowered-same : (x : ℕ) → (x ≡ s → ⊥) → keyOf (set costs s c) marks x ≡ keyOf costs marks x
+  unfolding keyOf
+  lowered-same x ne = rw (getD-set-other costs s x c nan ne)
 
--- the range of s gets the leader j; other ranges of its level and all of the other level keep theirs
-record Written (n s j : ℕ) (range : ℕ → ℕ) (leaders : List ℕ → ℕ → ℕ) (range′ : ℕ → ℕ) (leaders′ : List ℕ → ℕ → ℕ) (blocks after : List ℕ) : Type 0 where
-  room : 272 ≤ length after
-  here : leaders after (range s) ≡ j
-  others : (i : ℕ) → i < n → (range i ≡ range s → ⊥) → leaders after (range i) ≡ leaders blocks (range i)
-  kept : (i : ℕ) → i < n → leaders′ after (range′ i) ≡ leaders′ blocks (range′ i)
+  -- a settled state's cost is not looked at
+  module _ (o : getD marks s false ≡ true) where
+    settled-same : (x : ℕ) → keyOf (set costs s c) marks x ≡ keyOf costs marks x
+    unfolding keyOf
+    settled-same x = elim (ℕ-discrete x s) [ yes e ↦ rw (e, o) refl | no ne ↦ rw (getD-set-other costs s x c nan ne) refl ]
 
-module _ (n : ℕ) (few : n ≤ 4096) (blocks : List ℕ) (room : 272 ≤ length blocks) (s : ℕ) (known : s < n) where
-  grouped : (j : ℕ) → 16 * (s / 16) ≤ j → Written n s j groupOf groupLeader blockOf blockLeader blocks (set blocks (16 + s / 16) (j - 16 * (s / 16)))
-  unfolding groupLeader blockLeader
-  grouped j low =
-      record {
-        room = rw (length-set blocks (16 + s / 16) (j - 16 * (s / 16))) room;
-        here = entry-here _ blocks _ j (omega arith) low;
-        others = λ i h ne. entry-other _ blocks _ _ _ (λ e. ne (omega arith));
-        kept = λ i h. entry-other _ blocks _ _ _ (λ e. omega arith);
-      }
+    pub led-settled : Led (set costs s c) marks leaders keys
+    led-settled =
+        record {
+          tables = lowered-tables;
+          entries = L .entries;
+          numbers = lowered-numbers;
+          groups = λ g h. least-still (λ i f t. settled-same i) (L .groups g h);
+          blocks = λ b h. least-still (λ i f t. settled-same i) (L .blocks b h);
+        }
 
-  blocked : (k : ℕ) → 256 * (s / 256) ≤ k → Written n s k blockOf blockLeader groupOf groupLeader blocks (set blocks (s / 256) (k - 256 * (s / 256)))
-  unfolding groupLeader blockLeader
-  blocked k low =
-      record {
-        room = rw (length-set blocks (s / 256) (k - 256 * (s / 256))) room;
-        here = entry-here _ blocks _ k (omega arith) low;
-        others = λ i h ne. entry-other _ blocks _ _ _ ne;
-        kept = λ i h. entry-other _ blocks _ _ _ (λ e. omega arith);
-      }
+  module _ (o : getD marks s false ≡ false) where
+    lowered-key : keyOf (set costs s c) marks s ≡ c
+    unfolding keyOf
+    lowered-key = rw (o, getD-set-same costs s c nan (omega (arith, L .tables))) refl
 
--- ---- what lowering and settling keep
+    lowered-less : T (lt c (keyOf costs marks s))
+    unfolding keyOf
+    lowered-less = rw o less
 
--- the block's leader is in the tables still when its group's entry was written
-pub still-listed : (costs : List Float) (marks : List Bool) (blocks : List ℕ) (i : ℕ) → Comparable costs marks blocks i → (v : ℕ) →
-    Listed costs marks (blockLeader (set blocks (16 + i / 16) v) (i / 256))
-still-listed costs marks blocks i C v = rw (block-kept blocks i v) (C .block)
+    lowered-least : {low end : ℕ} {l : Leader} → low ≤ s → s < end → Least (keyOf costs marks) low end l → Least (keyOf (set costs s c) marks) low end (lowered l s c)
+    lowered-least from to = least-lowered s c lowered-same lowered-key lowered-less from to
 
-module _ (n : ℕ) (costs : List Float) (marks : List Bool) (blocks : List ℕ) (B : Blocks n costs marks blocks) where
-  -- where the code finds the leaders of a state's group and of its block
-  pub comparable : (costs′ : List Float) (i : ℕ) → i < n → n ≤ length costs′ → n ≤ length marks → Comparable costs′ marks blocks i
-  comparable costs′ i known c m =
-      let listed : (x : ℕ) → x < n → Listed costs′ marks x = λ x h. (omega (arith, h, B .groups .few), omega arith, omega arith) in
-      record {
-        room = B .groups .room;
-        state = listed i known;
-        group = listed _ (B .groups .led .within i known .0);
-        block = listed _ (B .led .within i known .0);
-      }
+    pub led-lowered : {leaders′ : List ℕ} {keys′ : List Float} →
+        leaders′ ≡ set leaders (16 + s / 16) (lowered (entryAt leaders keys (16 + s / 16)) s c .state) → keys′ ≡ set keys (16 + s / 16) (lowered (entryAt leaders keys (16 + s / 16)) s c .key) →
+        {leaders″ : List ℕ} {keys″ : List Float} →
+        leaders″ ≡ set leaders′ (s / 256) (lowered (entryAt leaders′ keys′ (s / 256)) s c .state) → keys″ ≡ set keys′ (s / 256) (lowered (entryAt leaders′ keys′ (s / 256)) s c .key) →
+        Led (set costs s c) marks leaders″ keys″
+    led-lowered put-leader put-key put-leader′ put-key′ =
+        let l = lowered (entryAt leaders keys (16 + s / 16)) s c in
+        let G = lowered-least (omega arith) (omega arith) (L .groups (s / 16) (omega arith)) in
+        led-put L s known (set costs s c) marks lowered-same l G put-leader put-key lowered-tables lowered-numbers
+        _ (rw (put-block L s known (set costs s c) marks lowered-same l G put-leader put-key) (lowered-least (omega arith) (omega arith) (L .blocks (s / 256) (omega arith)))) put-leader′ put-key′
 
-  module _ (s : ℕ) (known : s < n) where
-    module _ (c : Float) (room : n ≤ length costs) (less : T (lt c (getD costs s nan))) where
-      lowered-blocks : Blocks n (set costs s c) marks (blockWith (set costs s c) marks s (groupWith (set costs s c) marks s blocks))
-      unfolding groupWith blockWith groupLeader blockLeader
-      lowered-blocks =
-          let G = B .groups in
-          let fits : s < length costs = omega arith in
-          let new : List Float = set costs s c in
-          let first = grouped n (G .few) blocks (G .room) s known (leader new marks (groupLeader blocks (s / 16)) s) (leader-from new marks _ _ s (omega arith) (omega arith)) in
-          let then = blocked n (G .few) (groupWith new marks s blocks) (first .room) s known (leader new marks (blockLeader (groupWith new marks s blocks) (s / 256)) s)
-          (leader-from new marks _ _ s (omega arith) (omega arith)) in
-          record {
-            groups = record {
-              few = G .few;
-              room = then .room;
-              numbers = λ i h. lowered-number costs marks s c fits less i (G .numbers i h);
-              led = led-lowered n groupOf (G .led) s (λ i h ne. then .kept i h ∙ first .others i h ne) known c fits less (G .numbers s known) (then .kept s known ∙ first .here);
-            };
-            led = led-lowered n blockOf (B .led) s (λ i h ne. then .others i h ne ∙ first .kept i h) known c fits less (G .numbers s known)
-                (then .here ∙ ap (λ x. leader new marks x s) (first .kept s known));
-          }
+-- ---- what a search over n states has
 
-      pub blocks-lowered : {after : List ℕ} → after ≡ blockWith (set costs s c) marks s (groupWith (set costs s c) marks s blocks) → Blocks n (set costs s c) marks after
-      blocks-lowered e = rw e lowered-blocks
+module _ {n : ℕ} {costs : List Float} {marks : List Bool} {leaders : List ℕ} {keys : List Float} (B : Blocks n costs marks leaders keys) where
+  pub blocks-marked : {marks′ : List Bool} {leaders′ : List ℕ} {keys′ : List Float} → Led costs marks′ leaders′ keys′ → Blocks n costs marks′ leaders′ keys′
+  blocks-marked L = record { few = B .few; rest = B .rest; all = L }
 
-    -- s is settled: its group gets a leader, then its block
-    module _ {j : ℕ} (w : Between (16 * (s / 16)) (endOf n (16 * (s / 16)) 16) j)
-        (L : Leads costs (set marks s true) (Between (16 * (s / 16)) (endOf n (16 * (s / 16)) 16)) j) where
-      pub groups-marked : Groups n costs (set marks s true) (set blocks (16 + s / 16) (j - 16 * (s / 16)))
-      groups-marked =
-          let G = B .groups in
-          let first = grouped n (G .few) blocks (G .room) s known j (w .0) in
-          record {
-            few = G .few;
-            room = first .room;
-            numbers = G .numbers;
-            led = led-marked n groupOf (G .led) s (first .others) known (first .here) (omega (arith, w), omega (arith, w))
-                (leads-fewer _ _ _ (Inside n groupOf (s / 16)) _ (λ x h. (omega (arith, h), omega (arith, h))) L);
-          }
+  pub blocks-lowered : (s : ℕ) → s < n → (c : Float) {costs′ : List Float} {leaders′ : List ℕ} {keys′ : List Float} → costs′ ≡ set costs s c → Led costs′ marks leaders′ keys′ → Blocks n costs′ marks leaders′ keys′
+  blocks-lowered s h c e L = record { few = B .few; rest = λ i l t. rw (e, getD-set-other costs s i c nan (λ x. omega arith)) (B .rest i l t); all = L }
 
-      pub blocks-marked : {k : ℕ} → Between (256 * (s / 256)) (endOf n (256 * (s / 256)) 256) k →
-          Leads costs (set marks s true) (Between (256 * (s / 256)) (endOf n (256 * (s / 256)) 256)) k →
-          Blocks n costs (set marks s true) (set (set blocks (16 + s / 16) (j - 16 * (s / 16))) (s / 256) (k - 256 * (s / 256)))
-      blocks-marked {k} v M =
-          let G = groups-marked in
-          let first = grouped n (G .few) blocks (B .groups .room) s known j (w .0) in
-          let then = blocked n (G .few) (set blocks (16 + s / 16) (j - 16 * (s / 16))) (G .room) s known k (v .0) in
-          record {
-            groups = record { few = G .few; room = then .room; numbers = G .numbers; led = led-same n groupOf (G .led) (then .kept) };
-            led = led-marked n blockOf (B .led) s (λ i h ne. then .others i h ne ∙ first .kept i h) known (then .here) (omega (arith, v), omega (arith, v))
-                (leads-fewer _ _ _ (Inside n blockOf (s / 256)) _ (λ x h. (omega (arith, h), omega (arith, h))) M);
-          }
+  -- what is picked is the leader of all states
+  rest-key : (i : ℕ) → n ≤ i → i < 4096 → keyOf costs marks i ≡ inf false
+  unfolding keyOf
+  rest-key i h t = rw (B .rest i h t) (go (getD marks i false))
+    where
+      go : (m : Bool) → cond m (inf false) (inf false) ≡ inf false
+      go true = refl
+      go false = refl
+
+  pub pick-entries : (l : Leader) → l ≡ earliest 16 (λ k. entryAt leaders keys (0 + k)) → (t : Bool) → lt (l .key) (inf false) ≡ t → cond t (At (l .state)) Nothing ≡ pickOf costs marks n
+  pick-entries l e t f =
+      pick-led costs marks n (λ i h. B .all .numbers i (omega (arith, B .few))) l
+      (least-fewer n (B .few) rest-key (rw e (all-least leaders keys (B .all .blocks)))) t f
 
 -- ---- where a search begins
 
-module _ (n : ℕ) (few : n ≤ 4096) where
-  none-cost : (i : ℕ) → i < n → getD noCosts i nan ≡ inf false
-  unfolding noCosts
-  none-cost i h = getD-replicate 4096 i (inf false) nan (omega arith)
+none-cost : (i : ℕ) → i < 4096 → getD noCosts i nan ≡ inf false
+unfolding noCosts
+none-cost i h = getD-replicate 4096 i (inf false) nan h
 
-  -- every range is led by its first state
-  led-none : (range leaders : ℕ → ℕ) → ((i : ℕ) → leaders (range i) ≤ i) → ((i : ℕ) → range (leaders (range i)) ≡ range i) → Led n range noCosts noMarks leaders
-  unfolding le
-  led-none range leaders low inside =
-      record {
-        within = λ i h. (omega (arith, low i), inside i);
-        leads = λ i h. record {
-          first = λ x w o. record {
-            unsettled = unmarked (leaders (range i));
-            least = rw (none-cost (leaders (range i)) (omega (arith, low i)), none-cost x (w .0)) tt;
-            earlier = λ l. absurd (omega (arith, l, subst (λ k. leaders k ≤ x) (w .1) (low x)));
-          };
-        };
-      }
+none-key : (i : ℕ) → i < 4096 → keyOf noCosts noMarks i ≡ inf false
+unfolding keyOf
+none-key i h = rw (unmarked i, none-cost i h) refl
 
-  none-group : (g : ℕ) → groupLeader noBlocks g ≡ 16 * g
-  unfolding groupLeader noBlocks
-  none-group g = omega (arith, repeated {A = ℕ} 0 272 (16 + g))
+none-entry : (at : ℕ) → at < 272 → entryAt noLeaders noKeys at .key ≡ inf false
+unfolding entryAt noKeys
+none-entry at h = getD-replicate 272 at (inf false) nan h
 
-  none-block : (b : ℕ) → blockLeader noBlocks b ≡ 256 * b
-  unfolding blockLeader noBlocks
-  none-block b = omega (arith, repeated {A = ℕ} 0 272 b)
+none-least : (low end at : ℕ) → end ≤ 4096 → at < 272 → Least (keyOf noCosts noMarks) low end (entryAt noLeaders noKeys at)
+unfolding isNan le lt
+none-least low end at few h =
+    record {
+      number = rw (none-entry at h) tt;
+      least = λ i f t. rw (none-entry at h, none-key i (omega arith)) tt;
+      led = λ f. absurd (rw (none-entry at h) at f);
+    }
 
-  blocks-none : Blocks n noCosts noMarks noBlocks
-  unfolding noBlocks isNan
-  blocks-none =
-      record {
-        groups = record {
-          few = few;
-          room = omega (arith, length-replicate {A = ℕ} 272 0);
-          numbers = λ i h. rw (none-cost i h) tt;
-          led = led-none groupOf (groupLeader noBlocks) (λ i. omega (arith, none-group (i / 16))) (λ i. omega (arith, none-group (i / 16)));
-        };
-        led = led-none blockOf (blockLeader noBlocks) (λ i. omega (arith, none-block (i / 256))) (λ i. omega (arith, none-block (i / 256)));
-      }
+pub led-none : Led noCosts noMarks noLeaders noKeys
+unfolding noCosts noMarks noLeaders noKeys isNan
+led-none =
+    record {
+      tables = (omega (arith, length-replicate 4096 (inf false)), omega (arith, length-replicate 4096 false));
+      entries = (omega (arith, length-replicate {A = ℕ} 272 0), omega (arith, length-replicate 272 (inf false)));
+      numbers = λ i h. rw (none-cost i h) tt;
+      groups = λ g h. none-least _ _ _ (omega arith) (omega arith);
+      blocks = λ b h. none-least _ _ _ (omega arith) (omega arith);
+    }
 
-  -- the start costs 0
-  module _ (from : ℕ) (known : 2 * from < n) where
-    abbrev started : List Float
-    started = set noCosts (2 * from) pzero
+-- the start costs 0
+pub none-lowered : (s : ℕ) → s < 4096 → T (lt pzero (getD noCosts s nan))
+unfolding lt
+none-lowered s h = rw (none-cost s h) tt
 
-    enough : n ≤ length noCosts
-    unfolding noCosts
-    enough = rw (length-replicate 4096 (inf false)) few
-
-    below-none : T (lt pzero (getD noCosts (2 * from) nan))
-    unfolding lt
-    below-none = rw (none-cost (2 * from) known) tt
-
-    pub comparable-begun : Comparable started noMarks noBlocks (2 * from)
-    unfolding noMarks
-    comparable-begun =
-        comparable n noCosts noMarks noBlocks blocks-none started (2 * from) known
-        (rw (length-set noCosts (2 * from) pzero) enough) (rw (length-replicate 4096 false) few)
-
-    pub blocks-begun : {after : List ℕ} → after ≡ blockWith started noMarks (2 * from) (groupWith started noMarks (2 * from) noBlocks) → Blocks n started noMarks after
-    blocks-begun = blocks-lowered n noCosts noMarks noBlocks blocks-none (2 * from) known pzero enough below-none
-
--- ---- what the code goes through
-
--- the leaders of a group and of a block, as the code goes through them
-module _ (n : ℕ) (costs : List Float) (marks : List Bool) (blocks : List ℕ) where
-  group-led : Groups n costs marks blocks → (g : ℕ) → 16 * g < n →
-      Between (16 * g) (endOf n (16 * g) 16) (groupLeader blocks g) × Leads costs marks (Between (16 * g) (endOf n (16 * g) 16)) (groupLeader blocks g)
-  group-led G g h = range-led n groupOf (G .led) g (16 * g) (endOf n (16 * g) 16) h (omega arith) (λ x w. (omega (arith, w), omega (arith, w))) (λ x w. (omega (arith, w), omega (arith, w)))
-
-  -- a block's leader goes on from group to group
-  module _ (G : Groups n costs marks blocks) (b g end : ℕ) (e : end ≡ endOf n (256 * b) 256) (low : 16 * b ≤ g) (more : 16 * g < end) where
-    pub group-here : 16 * g + getD blocks (16 + g) 0 < n
-    unfolding groupLeader
-    group-here = omega (arith, group-led G g (omega (arith, e, more)) .0)
-
-    pub group-turn : {j r : ℕ} → Between (256 * b) end j → Leads costs marks (Between (256 * b) (min (16 * g) end)) j → r ≡ leader costs marks j (16 * g + getD blocks (16 + g) 0) →
-        Between (256 * b) end r × Leads costs marks (Between (256 * b) (min (16 * (g + 1)) end)) r
-    unfolding groupLeader
-    group-turn {j} {r} w L f =
-        let i : ℕ = groupLeader blocks g in
-        let led = group-led G g (omega (arith, e, more)) in
-        let v = led .0 in
-        let start : min (16 * g) end ≡ 16 * g = omega (arith, more) in
-        let stop : endOf n (16 * g) 16 ≡ min (16 * (g + 1)) end = omega (arith, e, low, more) in (
-          rw f (leader-either (Between (256 * b) end) costs marks j i w (omega (arith, v, low), omega (arith, v, stop))),
-          rw f (leads-on costs marks (256 * b) (16 * g) (min (16 * (g + 1)) end) i j (G .numbers i (omega (arith, v)))
-              (leads-done costs marks _ _ _ _ L start) (leads-done costs marks _ _ _ _ (led .1) stop)),
-        )
-
-  module _ (B : Blocks n costs marks blocks) where
-    pub block-led : (b : ℕ) → 256 * b < n →
-        Between (256 * b) (endOf n (256 * b) 256) (blockLeader blocks b) × Leads costs marks (Between (256 * b) (endOf n (256 * b) 256)) (blockLeader blocks b)
-    block-led b h = range-led n blockOf (B .led) b (256 * b) (endOf n (256 * b) 256) h (omega arith) (λ x w. (omega (arith, w), omega (arith, w))) (λ x w. (omega (arith, w), omega (arith, w)))
-
-    -- a pick goes on from block to block
-    pub pick-block : (b : ℕ) → 256 * b < n → better costs marks (pickOf costs marks (256 * b)) (blockLeader blocks b) ≡ pickOf costs marks (endOf n (256 * b) 256)
-    pick-block b h =
-        let numbers = B .groups .numbers in
-        let led = block-led b h in
-        picked-same costs marks (endOf n (256 * b) 256) _ _
-        (picked-better costs marks (256 * b) (endOf n (256 * b) 256) (blockLeader blocks b) (numbers (blockLeader blocks b) (omega (arith, led .0))) (led .0) (led .1) _
-        (pick-picked costs marks n numbers (256 * b) (omega arith)))
-        (pick-picked costs marks n numbers (endOf n (256 * b) 256) (omega arith))
-
-    pub pick-turn : (b : ℕ) → 256 * b < n → {p r : Pick} → p ≡ pickOf costs marks (min (256 * b) n) → r ≡ better costs marks p (256 * b + getD blocks b 0) →
-        r ≡ pickOf costs marks (min (256 * (b + 1)) n)
-    unfolding blockLeader
-    pick-turn b h e f =
-        let low : min (256 * b) n ≡ 256 * b = omega arith in
-        let end : min (256 * b + 256) n ≡ min (256 * (b + 1)) n = omega arith in
-        f ∙ rw (e, low, ← end) (pick-block b h)
+pub blocks-begun : (n s : ℕ) → n ≤ 4096 → s < n → (c : Float) {costs : List Float} {leaders : List ℕ} {keys : List Float} → costs ≡ set noCosts s c → Led costs noMarks leaders keys → Blocks n costs noMarks leaders keys
+blocks-begun n s few h c e L = blocks-lowered (record { few = few; rest = λ i l t. none-cost i t; all = led-none }) s h c e L

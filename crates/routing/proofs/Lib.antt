@@ -6,8 +6,8 @@ pub mod Runs
 pub mod Kept
 pub mod WalkCosts
 pub mod Relaxing
+pub mod Least
 pub mod LeastPick
-pub mod Ranges
 pub mod Leaders
 pub mod Chains
 pub mod Traces

@@ -5,9 +5,9 @@ use mathlib.Core.Bool.{Bool, true, false}
 use mathlib.Core.List.{List, reverse}
 use Prim.Native.Nat.{ℕ, zero, suc, _*_, _<_}
 use native.Mathlib.Omega.{arith}
-use lib.Dec.{ltb}
-use lib.ListN.{length, getD, set, length-replicate, length-reverse}
-use lib.Ieee.{Float, nan, inf}
+use lib.Dec.{T, ltb}
+use lib.ListN.{length, getD, set, length-reverse}
+use lib.Ieee.{Float, nan, lt}
 use borrow.Author.Tests.{ltb-true}
 use Rattle.lists.proofs.Loops.{and-both}
 use Rattle.binary64.specs.Values.{pzero}
@@ -25,11 +25,11 @@ use Rattle.routing.specs.Network.{Network, Graph, count, checked}
 use Rattle.routing.specs.Walks.{node}
 use Rattle.routing.specs.Sound.{Sound, Room}
 use Rattle.routing.specs.Search.{Within, Tables, Search, searchOf, Ended, run, left, noCosts, noPreds, noMarks, begun, searched}
-use Rattle.routing.specs.Blocks.{noBlocks, Blocks, groupWith, blockWith, Comparable}
+use Rattle.routing.specs.Blocks.{noLeaders, noKeys, Led, Blocks}
 use Rattle.routing.specs.Route.{knownSide, endCost, costOfEnd, route, stepsBack, back, endStates, statesOfEnd, routeStates, distanceBy, distanceOf, listingOf, listingBy, listing, stored}
 use Rattle.routing.specs.Triple.{consistent, consistencyOf, consistencyBy, consistency}
 use Rattle.routing.proofs.Turns.{left-all}
-use Rattle.routing.proofs.Leaders.{comparable-begun, blocks-begun}
+use Rattle.routing.proofs.Leaders.{led-none, none-lowered, blocks-begun}
 use Rattle.routing.proofs.Kept.{begun-full, searched-lengths, searched-preds, searched-within}
 
 pub length-back : (preds : List ℕ) (n s : ℕ) → length (back preds n s) ≡ n
@@ -39,30 +39,25 @@ length-back preds (suc n) s = ap suc (length-back preds n (getD preds s 0))
 
 -- ---- local tables
 
--- the start has its place in them
-pub begun-fits : {costs : List Float} → costs ≡ noCosts → (g : Graph) → Sound g → (from : ℕ) → from < 2 * count g → 2 * from < length costs
-unfolding noCosts
-begun-fits e g sound from known = rw (e, length-replicate {A = Float} 4096 (inf false)) (omega (arith, sound .few))
-
--- the tables of a search that begins are as `begun` has them
+-- the tables of a search that begins, with the cost of its start, are as `begun` has them
 module _ (from : ℕ) {costs : List Float} {preds : List ℕ} {marks : List Bool} (cs : costs ≡ noCosts) (ps : preds ≡ noPreds) (ms : marks ≡ noMarks) where
-  pub is-begun : searchOf (set costs (2 * from) pzero) preds marks ≡ begun from
+  pub is-begun : {costs′ : List Float} → costs′ ≡ set costs (2 * from) pzero → searchOf costs′ preds marks ≡ begun from
   unfolding begun
-  is-begun = rw (cs, ps, ms)
+  is-begun put = rw (put, cs, ps, ms)
 
-  pub begun-room : (g : Graph) → Sound g → Room (count g) (searchOf (set costs (2 * from) pzero) preds marks)
-  begun-room g sound =
-      let full = begun-full from in
-      rw is-begun (record { costs = omega (arith, full .costs, sound .few); preds = omega (arith, full .preds, sound .few); marks = omega (arith, full .marks, sound .few) })
+  module _ (g : Graph) (sound : Sound g) where
+    pub begun-room : {costs′ : List Float} → costs′ ≡ set costs (2 * from) pzero → Room (count g) (searchOf costs′ preds marks)
+    begun-room put =
+        let full = begun-full from in
+        rw (is-begun put) (record { costs = omega (arith, full .costs, sound .few); preds = omega (arith, full .preds, sound .few); marks = omega (arith, full .marks, sound .few) })
 
-  -- the leaders, with the start among them
-  module _ {blocks : List ℕ} (bs : blocks ≡ noBlocks) (g : Graph) (sound : Sound g) (known : from < 2 * count g) where
-    pub begun-comparable : Comparable (set costs (2 * from) pzero) marks blocks (2 * from)
-    begun-comparable = rw (cs, ms, bs) (comparable-begun (4 * count g) (omega (arith, sound .few)) from (omega arith))
+    -- the leaders, before the start is among them and with it
+    module _ {leaders : List ℕ} {keys : List Float} (ls : leaders ≡ noLeaders) (ks : keys ≡ noKeys) (known : from < 2 * count g) where
+      pub begun-led : (2 * from < 4096) × Led costs marks leaders keys × T (lt pzero (getD costs (2 * from) nan))
+      begun-led = rw (cs, ms, ls, ks) (omega (arith, sound .few), led-none, none-lowered (2 * from) (omega (arith, sound .few)))
 
-    pub begun-blocks : {after : List ℕ} → after ≡ blockWith (set costs (2 * from) pzero) marks (2 * from) (groupWith (set costs (2 * from) pzero) marks (2 * from) blocks) →
-        Blocks (4 * count g) (set costs (2 * from) pzero) marks after
-    begun-blocks e = rw (cs, ms) (blocks-begun (4 * count g) (omega (arith, sound .few)) from (omega arith) (e ∙ rw (cs, ms, bs)))
+      pub begun-blocks : {costs′ : List Float} → costs′ ≡ set costs (2 * from) pzero → {leaders′ : List ℕ} {keys′ : List Float} → Led costs′ marks leaders′ keys′ → Blocks (4 * count g) costs′ marks leaders′ keys′
+      begun-blocks put L = rw ms (blocks-begun (4 * count g) (2 * from) (omega (arith, sound .few)) (omega arith) pzero (put ∙ rw cs) (rw ms at L))
 
 -- the search from there is `searched`
 pub is-searched : (g : Graph) (from goal : ℕ) {e : Ended} {q : Search} → q ≡ begun from → e ≡ run g goal (left (q .marks) (4 * count g)) q → e ≡ searched g from goal

@@ -26,7 +26,8 @@ use Rattle.routing.proofs.Picks.{picked-open}
 use Rattle.routing.proofs.Turns.{below, one-less}
 use Rattle.routing.proofs.WalkCosts.{Ranged, WalkCost, edge-lands, edge-grows, edge-mono, walk-cost}
 use Rattle.routing.proofs.Relaxing.{costAt, predAt, Ready, Same, Lowered, Relaxes, still-low, relax-relaxes}
-use Rattle.routing.proofs.LeastPick.{never, picked-finite, picked-least}
+use Rattle.routing.proofs.Least.{never}
+use Rattle.routing.proofs.LeastPick.{picked-finite, picked-least}
 use Rattle.routing.proofs.Traces.{Trace, further, trace-kept}
 
 abbrev pub isSettled : Search → ℕ → Bool

@@ -1,110 +1,182 @@
-// The leader of each group of 16 states and of each block of 16 groups: the unsettled state of least cost, the lowest number among equals.
-ghost use mathlib.Core.Bool.{true, not};
+// The leader of each group of 16 states and of each block of 16 groups: the unsettled state of least cost, the lowest number among equals. Its cost is
+// kept beside it, infinity where there is none to pick, so that two leaders are compared by two numbers and neither marks nor costs are read.
+use binary64::infinity;
+ghost use mathlib.Core.Bool.{true};
 ghost use mathlib.Core.Path.{_≡_};
-ghost use Prim.Native.Nat.{ℕ, _*_, _<_, _≤_};
+ghost use Prim.Native.Nat.{_+_, _<_, _≤_};
 ghost use lib.Dec.{T};
 ghost use lib.ListN.{length, getD, set};
-ghost use lib.Ieee.{nan, isNan};
-ghost use Rattle.routing.specs.Blocks.{leader, Leads, Between, endOf, noBlocks, groupWith, blockWith, Groups, Blocks, Comparable};
+ghost use lib.Ieee.{nan, lt};
+ghost use Rattle.routing.specs.Blocks.{earlier, noLeader, earliest, stateLeader, lowered, entryAt, noLeaders, noKeys, Led};
 
-// The leaders' entries: 16 of blocks, then 256 of groups. Each counts its leader from the first state of its range.
-pub fn no_blocks() -> [usize; 272]
-    ensures { λ r. ⌜ r ≡ noBlocks ⌝ }
+// A state, and what it costs.
+pub struct Leader {
+    pub state: usize,
+    pub key: f64,
+}
+
+// The entries of a search: those of 16 blocks, then those of 256 groups.
+pub fn no_leaders() -> [usize; 272]
+    ensures { λ r. ⌜ r ≡ noLeaders ⌝ }
 {
     [0usize; 272]
 }
 
-// j, unless i is unsettled and comes first.
-fn lead(costs: &[f64], marks: &[bool], j: usize, i: usize) -> usize
-    requires { ⌜ (j < length (now costs)) × (j < length (now marks)) ⌝ }
+pub fn no_keys() -> [f64; 272]
+    ensures { λ r. ⌜ r ≡ noKeys ⌝ }
+{
+    [infinity(); 272]
+}
+
+fn no_leader() -> Leader
+    ensures { λ r. ⌜ r ≡ noLeader ⌝ }
+{
+    Leader {
+        state: 0,
+        key: infinity(),
+    }
+}
+
+// a, unless b costs less.
+fn earlier_of(a: Leader, b: Leader) -> Leader
+    ensures { λ r. ⌜ r ≡ earlier a b ⌝ }
+{
+    if b.key < a.key { b } else { a }
+}
+
+// The state i; a settled one cannot be picked. Its cost is read in any case, so that nothing has to be guessed.
+fn state_leader(costs: &[f64], marks: &[bool], i: usize) -> Leader
     requires { ⌜ (i < length (now costs)) × (i < length (now marks)) ⌝ }
-    ensures { λ r. ⌜ r ≡ leader (now (costs .entry)) (now (marks .entry)) j i ⌝ }
+    ensures { λ r. ⌜ r ≡ stateLeader (now (costs .entry)) (now (marks .entry)) i ⌝ }
 {
+    let cost = costs[i];
     if marks[i] {
-        return j;
+        return Leader {
+            state: i,
+            key: infinity(),
+        };
     }
-    if marks[j] {
-        return i;
+    Leader {
+        state: i,
+        key: cost,
     }
-    if costs[j] < costs[i] {
-        return j;
-    }
-    if costs[j] <= costs[i] {
-        if j <= i {
-            return j;
-        }
-    }
-    i
 }
 
-// The leader of the states from `low` to before `end`.
-fn lead_range(costs: &[f64], marks: &[bool], low: usize, end: usize) -> usize
-    requires { ⌜ low < end ⌝ }
-    requires { ⌜ (end ≤ length (now costs)) × (end ≤ length (now marks)) ⌝ }
-    requires { ⌜ ((i : ℕ) → i < end → T (not (isNan (getD (now costs) i nan)))) ⌝ }
-    ensures { λ r. ⌜ Between low end r × Leads (now (costs .entry)) (now (marks .entry)) (Between low end) r ⌝ }
+// The leader of the 16 states from `low`.
+fn lead_states(costs: &[f64], marks: &[bool], low: usize) -> Leader
+    requires { ⌜ (low + 16 ≤ length (now costs)) × (low + 16 ≤ length (now marks)) ⌝ }
+    ensures { λ r. ⌜ r ≡ earliest 16 (λ k. stateLeader (now (costs .entry)) (now (marks .entry)) (low + k)) ⌝ }
 {
-    let mut j = low;
-    for i in low..end {
-        j = lead(costs, marks, j, i);
+    let mut best = no_leader();
+    for k in 0..16 {
+        best = earlier_of(best, state_leader(costs, marks, low + k));
     }
-    j
+    best
 }
 
-// The end of the range of so many states from `low`; the last range may be shorter.
-fn end_of(states: usize, low: usize, width: usize) -> usize
-    requires { ⌜ low < states ⌝ }
-    ensures { λ r. ⌜ r ≡ endOf states low width ⌝ }
+fn entry_at(leaders: &[usize], keys: &[f64], at: usize) -> Leader
+    requires { ⌜ (at < length (now leaders)) × (at < length (now keys)) ⌝ }
+    ensures { λ r. ⌜ r ≡ entryAt (now (leaders .entry)) (now (keys .entry)) at ⌝ }
 {
-    if states - low < width {
-        return states;
+    Leader {
+        state: leaders[at],
+        key: keys[at],
     }
-    low + width
 }
 
-// The leader of block b, from its groups' leaders.
-fn lead_groups(costs: &[f64], marks: &[bool], blocks: &[usize], states: usize, b: usize) -> usize
-    requires { ⌜ 256 * b < states ⌝ }
-    requires { ⌜ (states ≤ length (now costs)) × (states ≤ length (now marks)) ⌝ }
-    requires { ⌜ Groups states (now costs) (now marks) (now blocks) ⌝ }
-    ensures { λ r. ⌜ Between (256 * b) (endOf states (256 * b) 256) r × Leads (now (costs .entry)) (now (marks .entry)) (Between (256 * b) (endOf states (256 * b) 256)) r ⌝ }
+// The leader of what the 16 entries from `low` lead.
+pub fn lead_entries(leaders: &[usize], keys: &[f64], low: usize) -> Leader
+    requires { ⌜ (low + 16 ≤ length (now leaders)) × (low + 16 ≤ length (now keys)) ⌝ }
+    ensures { λ r. ⌜ r ≡ earliest 16 (λ k. entryAt (now (leaders .entry)) (now (keys .entry)) (low + k)) ⌝ }
 {
-    let end = end_of(states, 256 * b, 256);
-    let mut j = 256 * b;
-    let mut g = 16 * b;
-    while 16 * g < end {
-        j = lead(costs, marks, j, 16 * g + blocks[16 + g]);
-        g += 1;
+    let mut best = no_leader();
+    for k in 0..16 {
+        best = earlier_of(best, entry_at(leaders, keys, low + k));
     }
-    j
+    best
+}
+
+fn put_entry(leaders: &mut [usize], keys: &mut [f64], at: usize, l: Leader)
+    requires { ⌜ (at < length (now leaders)) × (at < length (now keys)) ⌝ }
+    ensures { λ _. ⌜ now (leaders .exit) ≡ set (now (leaders .entry)) at (l .state) ⌝ }
+    ensures { λ _. ⌜ now (keys .exit) ≡ set (now (keys .entry)) at (l .key) ⌝ }
+{
+    leaders[at] = l.state;
+    keys[at] = l.key;
 }
 
 // The state s is marked as settled, and its group and its block get another leader.
-pub fn mark_state(costs: &[f64], marks: &mut [bool], blocks: &mut [usize], states: usize, s: usize)
-    requires { ⌜ s < states ⌝ }
-    requires { ⌜ (states ≤ length (now costs)) × (states ≤ length (now marks)) ⌝ }
-    requires { ⌜ Blocks states (now costs) (now marks) (now blocks) ⌝ }
+pub fn mark_state(
+    costs: &[f64],
+    marks: &mut [bool],
+    leaders: &mut [usize],
+    keys: &mut [f64],
+    s: usize,
+)
+    requires { ⌜ s < 4096 ⌝ }
+    requires { ⌜ Led (now costs) (now marks) (now leaders) (now keys) ⌝ }
     ensures { λ _. ⌜ now (marks .exit) ≡ set (now (marks .entry)) s true ⌝ }
-    ensures { λ _. ⌜ Blocks states (now (costs .entry)) (now (marks .exit)) (now (blocks .exit)) ⌝ }
+    ensures { λ _. ⌜ Led (now (costs .entry)) (now (marks .exit)) (now (leaders .exit)) (now (keys .exit)) ⌝ }
 {
     marks[s] = true;
     let g = s / 16;
-    let j = lead_range(costs, marks, 16 * g, end_of(states, 16 * g, 16));
-    blocks[16 + g] = j - 16 * g;
+    let l = lead_states(costs, marks, 16 * g);
+    put_entry(leaders, keys, 16 + g, l);
     let b = s / 256;
-    let k = lead_groups(costs, marks, blocks, states, b);
-    blocks[b] = k - 256 * b;
+    let m = lead_entries(leaders, keys, 16 + 16 * b);
+    put_entry(leaders, keys, b, m);
 }
 
-// The state i, whose cost was lowered, is compared with the leaders of its group and of its block.
-pub fn lower_leaders(costs: &[f64], marks: &[bool], blocks: &mut [usize], i: usize)
-    requires { ⌜ Comparable (now costs) (now marks) (now blocks) i ⌝ }
-    ensures { λ _. ⌜ now (blocks .exit) ≡ blockWith (now (costs .entry)) (now (marks .entry)) i (groupWith (now (costs .entry)) (now (marks .entry)) i (now (blocks .entry))) ⌝ }
+// l, unless the state i comes before it at its lower cost.
+fn lowered_by(l: Leader, i: usize, cost: f64) -> Leader
+    ensures { λ r. ⌜ r ≡ lowered l i cost ⌝ }
 {
-    let g = i / 16;
-    let j = lead(costs, marks, 16 * g + blocks[16 + g], i);
-    blocks[16 + g] = j - 16 * g;
-    let b = i / 256;
-    let k = lead(costs, marks, 256 * b + blocks[b], i);
-    blocks[b] = k - 256 * b;
+    if cost < l.key {
+        return Leader {
+            state: i,
+            key: cost,
+        };
+    }
+    if cost <= l.key {
+        if i < l.state {
+            return Leader {
+                state: i,
+                key: cost,
+            };
+        }
+    }
+    l
+}
+
+// The state i, which costs less now, is compared with an entry.
+fn lower_entry(leaders: &mut [usize], keys: &mut [f64], at: usize, i: usize, cost: f64)
+    requires { ⌜ (at < length (now leaders)) × (at < length (now keys)) ⌝ }
+    ensures { λ _. ⌜ now (leaders .exit) ≡ set (now (leaders .entry)) at (lowered (entryAt (now (leaders .entry)) (now (keys .entry)) at) i cost .state) ⌝ }
+    ensures { λ _. ⌜ now (keys .exit) ≡ set (now (keys .entry)) at (lowered (entryAt (now (leaders .entry)) (now (keys .entry)) at) i cost .key) ⌝ }
+{
+    let l = lowered_by(entry_at(leaders, keys, at), i, cost);
+    put_entry(leaders, keys, at, l);
+}
+
+// The state i gets a lower cost, and is compared with the leaders of its group and of its block unless it is settled.
+pub fn lower_cost(
+    costs: &mut [f64],
+    marks: &[bool],
+    leaders: &mut [usize],
+    keys: &mut [f64],
+    i: usize,
+    cost: f64,
+)
+    requires { ⌜ i < 4096 ⌝ }
+    requires { ⌜ Led (now costs) (now marks) (now leaders) (now keys) ⌝ }
+    requires { ⌜ T (lt cost (getD (now costs) i nan)) ⌝ }
+    ensures { λ _. ⌜ now (costs .exit) ≡ set (now (costs .entry)) i cost ⌝ }
+    ensures { λ _. ⌜ Led (now (costs .exit)) (now (marks .entry)) (now (leaders .exit)) (now (keys .exit)) ⌝ }
+{
+    costs[i] = cost;
+    if marks[i] {
+        return;
+    }
+    lower_entry(leaders, keys, 16 + i / 16, i, cost);
+    lower_entry(leaders, keys, i / 256, i, cost);
 }

@@ -1,6 +1,7 @@
 // The cheapest routes from one node to several goals: one search serves them all, and each gets the cost that a search of its own would find.
-use crate::blocks::lower_leaders;
-use crate::blocks::no_blocks;
+use crate::blocks::lower_cost;
+use crate::blocks::no_keys;
+use crate::blocks::no_leaders;
 use crate::route::Route;
 use crate::search::Pick;
 use crate::search::next_state;
@@ -83,7 +84,8 @@ fn serve_goals(
     costs: &mut [f64],
     preds: &mut [u32],
     marks: &mut [bool],
-    blocks: &mut [usize],
+    leaders: &mut [usize],
+    keys: &mut [f64],
     lengths: &[f64],
     from: &[u32],
     to: &[u32],
@@ -98,7 +100,7 @@ fn serve_goals(
 )
     requires { ⌜ Sound (graphOf (now lengths) (now from) (now to) (now «from_side») (now «to_side») (now forward) (now backward)) ⌝ }
     requires { ⌜ Room (length (now lengths)) (searchOf (now costs) (now preds) (now marks)) ⌝ }
-    requires { ⌜ Blocks (4 * length (now lengths)) (now costs) (now marks) (now blocks) ⌝ }
+    requires { ⌜ Blocks (4 * length (now lengths)) (now costs) (now marks) (now leaders) (now keys) ⌝ }
     requires { ⌜ Indexed (length (now lengths)) (relationsOf (now from) (now to) (now «from_side») (now «to_side») (now forward) (now backward)) 0 (now heads) (now nexts) ⌝ }
     requires { ⌜ length (now goals) ≤ length (now found) ⌝ }
     requires { ⌜ ((k : ℕ) → k < length (now goals) → getD (now found) k nan ≡ inf false) ⌝ }
@@ -106,7 +108,7 @@ fn serve_goals(
 {
     let mut waiting = goals.len();
     while 0 < waiting {
-        let picked = next_state(costs, marks, blocks, 4 * lengths.len());
+        let picked = next_state(costs, marks, leaders, keys, 4 * lengths.len());
         match picked {
             Pick::At(s) => {
                 waiting = note_goals(goals, found, s / 2, costs[s]);
@@ -114,7 +116,8 @@ fn serve_goals(
                     costs,
                     preds,
                     marks,
-                    blocks,
+                    leaders,
+                    keys,
                     lengths,
                     from,
                     to,
@@ -158,15 +161,16 @@ pub fn distances_from(
     let mut costs = no_costs();
     let mut preds = no_preds();
     let mut marks = no_marks();
-    let mut blocks = no_blocks();
-    costs[2 * start] = 0.0;
-    lower_leaders(&costs, &marks, &mut blocks, 2 * start);
+    let mut leaders = no_leaders();
+    let mut keys = no_keys();
+    lower_cost(&mut costs, &marks, &mut leaders, &mut keys, 2 * start, 0.0);
     clear_goals(found, goals.len());
     serve_goals(
         &mut costs,
         &mut preds,
         &mut marks,
-        &mut blocks,
+        &mut leaders,
+        &mut keys,
         lengths,
         from,
         to,

@@ -1,7 +1,9 @@
 // The search for a route, over tables of four states per element.
-use crate::blocks::lower_leaders;
+use crate::blocks::lead_entries;
+use crate::blocks::lower_cost;
 use crate::blocks::mark_state;
-use crate::blocks::no_blocks;
+use crate::blocks::no_keys;
+use crate::blocks::no_leaders;
 use crate::link::link_at;
 use crate::link::link_number;
 use binary64::infinity;
@@ -13,7 +15,7 @@ ghost use Rattle.routing.specs.Sound.{Even, Sound, Room};
 ghost use Rattle.routing.specs.Walks.{opposite};
 ghost use Rattle.routing.specs.Blocks.{Blocks};
 ghost use Rattle.routing.specs.Index.{Indexed};
-ghost use Rattle.routing.specs.Search.{Within, costOf, better, pickOf, tables, lower, relaxExternal, settled, searchOf, endedAt, left, run, noCosts, noPreds, noMarks, searched};
+ghost use Rattle.routing.specs.Search.{pickOf, tables, lower, relaxExternal, settled, searchOf, endedAt, left, run, noCosts, noPreds, noMarks, searched};
 
 pub enum Pick {
     At(usize),
@@ -39,46 +41,24 @@ pub fn no_marks() -> [bool; 4096]
     [false; 4096]
 }
 
-// What a pick costs; none costs infinity.
-fn cost_of(costs: &[f64], best: Pick) -> f64
-    requires { ⌜ Within (length (now costs)) best ⌝ }
-    ensures { λ r. ⌜ r ≡ costOf (now (costs .entry)) best ⌝ }
-{
-    match best {
-        Pick::At(j) => costs[j],
-        Pick::Nothing => infinity(),
-    }
-}
-
-// The better of the best so far and the state i.
-fn better_of(costs: &[f64], marks: &[bool], best: Pick, i: usize) -> Pick
-    requires { ⌜ (i < length (now costs)) × (i < length (now marks)) ⌝ }
-    requires { ⌜ Within (length (now costs)) best ⌝ }
-    ensures { λ r. ⌜ r ≡ better (now (costs .entry)) (now (marks .entry)) best i ⌝ }
-{
-    if marks[i] {
-        return best;
-    }
-    if costs[i] < cost_of(costs, best) {
-        Pick::At(i)
-    } else {
-        best
-    }
-}
-
-// The unsettled state of least cost among the first `states`, the lowest number among equals: the best of the blocks' leaders.
-pub fn next_state(costs: &[f64], marks: &[bool], blocks: &[usize], states: usize) -> Pick
-    requires { ⌜ (states ≤ length (now costs)) × (states ≤ length (now marks)) ⌝ }
-    requires { ⌜ Blocks states (now costs) (now marks) (now blocks) ⌝ }
+// The unsettled state of least cost among the first `states`, the lowest number among equals: the earliest of the blocks' leaders. No state from
+// `states` on is reached, so that the tables need not be looked at.
+pub fn next_state(
+    costs: &[f64],
+    marks: &[bool],
+    leaders: &[usize],
+    keys: &[f64],
+    states: usize,
+) -> Pick
+    requires { ⌜ Blocks states (now costs) (now marks) (now leaders) (now keys) ⌝ }
     ensures { λ r. ⌜ r ≡ pickOf (now (costs .entry)) (now (marks .entry)) states ⌝ }
 {
-    let mut best = Pick::Nothing;
-    let mut b = 0;
-    while 256 * b < states {
-        best = better_of(costs, marks, best, 256 * b + blocks[b]);
-        b += 1;
+    let l = lead_entries(leaders, keys, 0);
+    if l.key < infinity() {
+        Pick::At(l.state)
+    } else {
+        Pick::Nothing
     }
-    best
 }
 
 // A state is reached from another at a cost, which counts only where it is strictly lower.
@@ -86,7 +66,8 @@ fn lower_state(
     costs: &mut [f64],
     preds: &mut [u32],
     marks: &[bool],
-    blocks: &mut [usize],
+    leaders: &mut [usize],
+    keys: &mut [f64],
     elements: usize,
     from: usize,
     to: usize,
@@ -94,14 +75,13 @@ fn lower_state(
 )
     requires { ⌜ (from < 4096) × (to < 4 * elements) ⌝ }
     requires { ⌜ Room elements (searchOf (now costs) (now preds) (now marks)) ⌝ }
-    requires { ⌜ Blocks (4 * elements) (now costs) (now marks) (now blocks) ⌝ }
+    requires { ⌜ Blocks (4 * elements) (now costs) (now marks) (now leaders) (now keys) ⌝ }
     ensures { λ _. ⌜ tables (now (costs .exit)) (now (preds .exit)) ≡ lower from to cost (tables (now (costs .entry)) (now (preds .entry))) ⌝ }
-    ensures { λ _. ⌜ Blocks (4 * elements) (now (costs .exit)) (now (marks .entry)) (now (blocks .exit)) ⌝ }
+    ensures { λ _. ⌜ Blocks (4 * elements) (now (costs .exit)) (now (marks .entry)) (now (leaders .exit)) (now (keys .exit)) ⌝ }
 {
     if cost < costs[to] {
-        costs[to] = cost;
+        lower_cost(costs, marks, leaders, keys, to, cost);
         preds[to] = from as u32;
-        lower_leaders(costs, marks, blocks, to);
     }
 }
 
@@ -110,7 +90,8 @@ fn relax_external(
     costs: &mut [f64],
     preds: &mut [u32],
     marks: &[bool],
-    blocks: &mut [usize],
+    leaders: &mut [usize],
+    keys: &mut [f64],
     elements: usize,
     from: &[u32],
     to: &[u32],
@@ -126,10 +107,10 @@ fn relax_external(
     requires { ⌜ (v < 2 * elements) × (v < 2048) ⌝ }
     requires { ⌜ Even (relationsOf (now from) (now to) (now «from_side») (now «to_side») (now forward) (now backward)) ⌝ }
     requires { ⌜ Room elements (searchOf (now costs) (now preds) (now marks)) ⌝ }
-    requires { ⌜ Blocks (4 * elements) (now costs) (now marks) (now blocks) ⌝ }
+    requires { ⌜ Blocks (4 * elements) (now costs) (now marks) (now leaders) (now keys) ⌝ }
     requires { ⌜ Indexed elements (relationsOf (now from) (now to) (now «from_side») (now «to_side») (now forward) (now backward)) 0 (now heads) (now nexts) ⌝ }
     ensures { λ _. ⌜ tables (now (costs .exit)) (now (preds .exit)) ≡ relaxExternal elements (relationsOf (now (from .entry)) (now (to .entry)) (now («from_side» .entry)) (now («to_side» .entry)) (now (forward .entry)) (now (backward .entry))) v d (tables (now (costs .entry)) (now (preds .entry))) ⌝ }
-    ensures { λ _. ⌜ Blocks (4 * elements) (now (costs .exit)) (now (marks .entry)) (now (blocks .exit)) ⌝ }
+    ensures { λ _. ⌜ Blocks (4 * elements) (now (costs .exit)) (now (marks .entry)) (now (leaders .exit)) (now (keys .exit)) ⌝ }
 {
     let mut e = link_number(heads[v]);
     while e < 2 * from.len() {
@@ -138,7 +119,8 @@ fn relax_external(
             costs,
             preds,
             marks,
-            blocks,
+            leaders,
+            keys,
             elements,
             2 * v,
             2 * l.to + 1,
@@ -161,7 +143,8 @@ pub fn settle(
     costs: &mut [f64],
     preds: &mut [u32],
     marks: &mut [bool],
-    blocks: &mut [usize],
+    leaders: &mut [usize],
+    keys: &mut [f64],
     lengths: &[f64],
     from: &[u32],
     to: &[u32],
@@ -175,21 +158,22 @@ pub fn settle(
 )
     requires { ⌜ Sound (graphOf (now lengths) (now from) (now to) (now «from_side») (now «to_side») (now forward) (now backward)) ⌝ }
     requires { ⌜ Room (length (now lengths)) (searchOf (now costs) (now preds) (now marks)) ⌝ }
-    requires { ⌜ Blocks (4 * length (now lengths)) (now costs) (now marks) (now blocks) ⌝ }
+    requires { ⌜ Blocks (4 * length (now lengths)) (now costs) (now marks) (now leaders) (now keys) ⌝ }
     requires { ⌜ Indexed (length (now lengths)) (relationsOf (now from) (now to) (now «from_side») (now «to_side») (now forward) (now backward)) 0 (now heads) (now nexts) ⌝ }
     requires { ⌜ s < 4 * length (now lengths) ⌝ }
     ensures { λ _. ⌜ searchOf (now (costs .exit)) (now (preds .exit)) (now (marks .exit)) ≡ settled (graphOf (now (lengths .entry)) (now (from .entry)) (now (to .entry)) (now («from_side» .entry)) (now («to_side» .entry)) (now (forward .entry)) (now (backward .entry))) s (searchOf (now (costs .entry)) (now (preds .entry)) (now (marks .entry))) ⌝ }
-    ensures { λ _. ⌜ Blocks (4 * length (now (lengths .entry))) (now (costs .exit)) (now (marks .exit)) (now (blocks .exit)) ⌝ }
+    ensures { λ _. ⌜ Blocks (4 * length (now (lengths .entry))) (now (costs .exit)) (now (marks .exit)) (now (leaders .exit)) (now (keys .exit)) ⌝ }
 {
     let n = lengths.len();
-    mark_state(costs, marks, blocks, 4 * n, s);
+    mark_state(costs, marks, leaders, keys, s);
     let d = costs[s];
     let inner = d + lengths[s / 4];
     lower_state(
         costs,
         preds,
         marks,
-        blocks,
+        leaders,
+        keys,
         n,
         s,
         2 * opposite_of(s / 2),
@@ -200,7 +184,8 @@ pub fn settle(
             costs,
             preds,
             marks,
-            blocks,
+            leaders,
+            keys,
             n,
             from,
             to,
@@ -221,7 +206,8 @@ fn find(
     costs: &mut [f64],
     preds: &mut [u32],
     marks: &mut [bool],
-    blocks: &mut [usize],
+    leaders: &mut [usize],
+    keys: &mut [f64],
     lengths: &[f64],
     from: &[u32],
     to: &[u32],
@@ -235,12 +221,12 @@ fn find(
 ) -> Pick
     requires { ⌜ Sound (graphOf (now lengths) (now from) (now to) (now «from_side») (now «to_side») (now forward) (now backward)) ⌝ }
     requires { ⌜ Room (length (now lengths)) (searchOf (now costs) (now preds) (now marks)) ⌝ }
-    requires { ⌜ Blocks (4 * length (now lengths)) (now costs) (now marks) (now blocks) ⌝ }
+    requires { ⌜ Blocks (4 * length (now lengths)) (now costs) (now marks) (now leaders) (now keys) ⌝ }
     requires { ⌜ Indexed (length (now lengths)) (relationsOf (now from) (now to) (now «from_side») (now «to_side») (now forward) (now backward)) 0 (now heads) (now nexts) ⌝ }
     ensures { λ r. ⌜ endedAt r (searchOf (now (costs .exit)) (now (preds .exit)) (now (marks .exit))) ≡ run (graphOf (now (lengths .entry)) (now (from .entry)) (now (to .entry)) (now («from_side» .entry)) (now («to_side» .entry)) (now (forward .entry)) (now (backward .entry))) goal (left (now (marks .entry)) (4 * length (now (lengths .entry)))) (searchOf (now (costs .entry)) (now (preds .entry)) (now (marks .entry))) ⌝ }
 {
     loop {
-        let picked = next_state(costs, marks, blocks, 4 * lengths.len());
+        let picked = next_state(costs, marks, leaders, keys, 4 * lengths.len());
         match picked {
             Pick::At(s) => {
                 if s / 2 == goal {
@@ -250,7 +236,8 @@ fn find(
                     costs,
                     preds,
                     marks,
-                    blocks,
+                    leaders,
+                    keys,
                     lengths,
                     from,
                     to,
@@ -295,14 +282,15 @@ pub fn search_between(
     ensures { λ _. ⌜ tables (now (costs .exit)) (now (preds .exit)) ≡ searched (graphOf (now (lengths .entry)) (now (from .entry)) (now (to .entry)) (now («from_side» .entry)) (now («to_side» .entry)) (now (forward .entry)) (now (backward .entry))) start goal .search .tables ⌝ }
 {
     let mut marks = no_marks();
-    let mut blocks = no_blocks();
-    costs[2 * start] = 0.0;
-    lower_leaders(costs, &marks, &mut blocks, 2 * start);
+    let mut leaders = no_leaders();
+    let mut keys = no_keys();
+    lower_cost(costs, &marks, &mut leaders, &mut keys, 2 * start, 0.0);
     find(
         costs,
         preds,
         &mut marks,
-        &mut blocks,
+        &mut leaders,
+        &mut keys,
         lengths,
         from,
         to,

@@ -16,13 +16,14 @@ use Rattle.routing.proofs.Turns.{below, turn-less, room-same}
 use Rattle.routing.proofs.Served.{Served, served-begins, served-reached, served-none, served-on}
 
 abbrev Inv-loop : tie.InvT-loop
-Inv-loop costs₀ preds₀ marks₀ blocks₀ lengths from to from-side to-side forward backward heads nexts goals found₀ waiting₀ costs preds marks blocks found waiting =
+Inv-loop costs₀ preds₀ marks₀ leaders₀ keys₀ lengths from to from-side to-side forward backward heads nexts goals found₀ waiting₀ costs preds marks leaders keys found waiting =
     (length costs ≡ length costs₀)
     × (length preds ≡ length preds₀)
     × (length marks ≡ length marks₀)
-    × (length blocks ≡ length blocks₀)
+    × (length leaders ≡ length leaders₀)
+    × (length keys ≡ length keys₀)
     × (length found ≡ length found₀)
-    × Blocks (4 * length lengths) costs marks blocks
+    × Blocks (4 * length lengths) costs marks leaders keys
     × ((k : ℕ) → k < length goals →
     Served (graphOf lengths from to from-side to-side forward backward) (getD goals k 0)
     (run (graphOf lengths from to from-side to-side forward backward) (getD goals k 0) (left marks₀ (4 * length lengths)) (searchOf costs₀ preds₀ marks₀))
@@ -30,7 +31,7 @@ Inv-loop costs₀ preds₀ marks₀ blocks₀ lengths from to from-side to-side 
     × (waiting ≡ 0 → (k : ℕ) → k < length goals → lt (getD found k nan) (inf false) ≡ true)
 
 abbrev μ-loop : tie.MeasureT-loop
-μ-loop costs₀ preds₀ marks₀ blocks₀ lengths from to from-side to-side forward backward heads nexts goals found₀ waiting₀ costs preds marks blocks found waiting =
+μ-loop costs₀ preds₀ marks₀ leaders₀ keys₀ lengths from to from-side to-side forward backward heads nexts goals found₀ waiting₀ costs preds marks leaders keys found waiting =
     left marks (4 * length lengths)
 
 -- ---- a turn that picked a state
@@ -43,17 +44,17 @@ graph-at c =
 module _ (c : tie.After-known-told Inv-loop μ-loop) where
   abbrev g : Graph
   unfolding graph-at
-  g = graph-at (c .before .before .before .before .before .before .before .before .before .before .before .before .before .before .before .before .before .before .before .before .before .before .before .before)
+  g = graph-at (c .before .before .before .before .before .before .before .before .before .before .before .before .before .before .before .before .before .before .before .before .before .before .before .before .before .before)
 
   abbrev q : Search
-  q = searchOf (c .before .before .before .before .before .before .before .before .loop .costs) (c .before .before .before .before .before .before .before .before .loop .preds) (c .before .before .before .before .before .before .before .before .loop .marks)
+  q = searchOf (c .before .before .before .before .before .before .before .before .before .loop .costs) (c .before .before .before .before .before .before .before .before .before .loop .preds) (c .before .before .before .before .before .before .before .before .before .loop .marks)
 
   abbrev s : ℕ
   s = c .before .picked .given .0 .0
 
   fits : 4 * length (g .lengths) ≤ length (q .marks)
   unfolding graph-at
-  fits = omega (arith, c .before .before .before .before .before .before .before .before .loop .inv .2, c .before .before .before .before .before .before .before .before .before .before .before .before .before .before .before .before .before .before .before .before .before .before .before .before .pre .1 .0 .marks)
+  fits = omega (arith, c .before .before .before .before .before .before .before .before .before .loop .inv .2, c .before .before .before .before .before .before .before .before .before .before .before .before .before .before .before .before .before .before .before .before .before .before .before .before .before .before .pre .1 .0 .marks)
 
   picked : next g q ≡ At s
   unfolding next graph-at
@@ -63,79 +64,85 @@ module _ (c : tie.After-known-told Inv-loop μ-loop) where
   s-below = below g 0 q s fits picked
 
 loop-holds : tie.Need-loop-holds Inv-loop μ-loop
-loop-holds c = (refl, refl, refl, refl, refl, c .before .before .before .before .before .before .before .before .before .before .before .before .before .before .before .pre .1 .1 .0, λ k h. served-begins _ _ _ (c .before .before .before .before .before .before .before .before .before .before .before .before .before .before .before .pre .1 .1 .1 .1 .1 k h), λ z k h. absurd (omega (arith, z, h)))
+loop-holds c = (refl, refl, refl, refl, refl, refl, c .before .before .before .before .before .before .before .before .before .before .before .before .before .before .before .before .pre .1 .1 .0, λ k h. served-begins _ _ _ (c .before .before .before .before .before .before .before .before .before .before .before .before .before .before .before .before .pre .1 .1 .1 .1 .1 k h), λ z k h. absurd (omega (arith, z, h)))
 
 mul-next-state : tie.Need-mul-next-state Inv-loop μ-loop
-mul-next-state c = omega (arith, c .before .before .before .before .before .before .before .before .before .before .before .before .before .before .before .before .before .before .before .before .pre .0 .few)
+mul-next-state c = omega (arith, c .before .before .before .before .before .before .before .before .before .before .before .before .before .before .before .before .before .before .before .before .before .before .pre .0 .few)
 
 next-state-requires : tie.Need-next-state-requires Inv-loop μ-loop
-next-state-requires c κs = ((omega (arith, c .before .before .before .before .loop .inv .0, c .before .before .before .before .before .before .before .before .before .before .before .before .before .before .before .before .before .before .before .before .pre .1 .0 .costs), omega (arith, c .before .before .before .before .loop .inv .2, c .before .before .before .before .before .before .before .before .before .before .before .before .before .before .before .before .before .before .before .before .pre .1 .0 .marks)), c .before .before .before .before .loop .inv .5)
+next-state-requires c κs = c .before .before .before .before .before .loop .inv .6
 
 enum-known-picked : tie.Need-enum-known-picked Inv-loop μ-loop
 enum-known-picked c = search needs
 
 mul-note-goals : tie.Need-mul-note-goals Inv-loop μ-loop
 unfolding graph-at
-mul-note-goals c = omega (arith, s-below (c .before), c .before .before .before .before .before .before .before .before .before .before .before .before .before .before .before .before .before .before .before .before .before .before .before .before .before .pre .0 .few)
+mul-note-goals c = omega (arith, s-below (c .before), c .before .before .before .before .before .before .before .before .before .before .before .before .before .before .before .before .before .before .before .before .before .before .before .before .before .before .before .pre .0 .few)
 
 slice-read-note-goals : tie.Need-slice-read-note-goals Inv-loop μ-loop
 unfolding graph-at
-slice-read-note-goals c = omega (arith, s-below (c .before .before), c .before .before .before .before .before .before .before .before .before .before .loop .inv .0, c .before .before .before .before .before .before .before .before .before .before .before .before .before .before .before .before .before .before .before .before .before .before .before .before .before .before .pre .1 .0 .costs)
+slice-read-note-goals c = omega (arith, s-below (c .before .before), c .before .before .before .before .before .before .before .before .before .before .before .loop .inv .0, c .before .before .before .before .before .before .before .before .before .before .before .before .before .before .before .before .before .before .before .before .before .before .before .before .before .before .before .before .pre .1 .0 .costs)
 
 note-goals-requires : tie.Need-note-goals-requires Inv-loop μ-loop
-note-goals-requires c κs = omega (arith, c .before .before .before .before .before .before .before .before .before .before .loop .inv .4, c .before .before .before .before .before .before .before .before .before .before .before .before .before .before .before .before .before .before .before .before .before .before .before .before .before .before .pre .1 .1 .1 .1 .0)
+note-goals-requires c κs = omega (arith, c .before .before .before .before .before .before .before .before .before .before .before .loop .inv .5, c .before .before .before .before .before .before .before .before .before .before .before .before .before .before .before .before .before .before .before .before .before .before .before .before .before .before .before .before .pre .1 .1 .1 .1 .0)
 
 settle-requires : tie.Need-settle-requires Inv-loop μ-loop
 unfolding graph-at
-settle-requires c κs = (c .before .before .before .before .before .before .before .before .before .before .before .before .before .before .before .before .before .before .before .before .before .before .before .before .before .before .before .before .before .before .before .before .before .pre .0, (room-same _ _ _ (c .before .before .before .before .before .before .before .before .before .before .before .before .before .before .before .before .before .before .before .before .before .before .before .before .before .before .before .before .before .before .before .before .before .pre .1 .0) (c .before .before .before .before .before .before .before .before .before .before .before .before .before .before .before .before .before .loop .inv .0) (c .before .before .before .before .before .before .before .before .before .before .before .before .before .before .before .before .before .loop .inv .1) (c .before .before .before .before .before .before .before .before .before .before .before .before .before .before .before .before .before .loop .inv .2), (c .before .before .before .before .before .before .before .before .before .before .before .before .before .before .before .before .before .loop .inv .5, (c .before .before .before .before .before .before .before .before .before .before .before .before .before .before .before .before .before .before .before .before .before .before .before .before .before .before .before .before .before .before .before .before .before .pre .1 .1 .1 .0, s-below (c .before .before .before .before .before .before .before .before .before)))))
+settle-requires c κs = (c .before .before .before .before .before .before .before .before .before .before .before .before .before .before .before .before .before .before .before .before .before .before .before .before .before .before .before .before .before .before .before .before .before .before .before .before .pre .0, (room-same _ _ _ (c .before .before .before .before .before .before .before .before .before .before .before .before .before .before .before .before .before .before .before .before .before .before .before .before .before .before .before .before .before .before .before .before .before .before .before .before .pre .1 .0) (c .before .before .before .before .before .before .before .before .before .before .before .before .before .before .before .before .before .before .before .loop .inv .0) (c .before .before .before .before .before .before .before .before .before .before .before .before .before .before .before .before .before .before .before .loop .inv .1) (c .before .before .before .before .before .before .before .before .before .before .before .before .before .before .before .before .before .before .before .loop .inv .2), (c .before .before .before .before .before .before .before .before .before .before .before .before .before .before .before .before .before .before .before .loop .inv .6, (c .before .before .before .before .before .before .before .before .before .before .before .before .before .before .before .before .before .before .before .before .before .before .before .before .before .before .before .before .before .before .before .before .before .before .before .before .pre .1 .1 .1 .0, s-below (c .before .before .before .before .before .before .before .before .before .before)))))
 
 loop-less : tie.Need-loop-less Inv-loop μ-loop
 unfolding graph-at
-loop-less c = turn-less _ 0 _ _ (fits (c .before .before .before .before .before .before .before .before .before .before .before .before .before .before .before .before .before .before)) (picked (c .before .before .before .before .before .before .before .before .before .before .before .before .before .before .before .before .before .before)) (c .before .before .before .before .before .before .before .before .settle .ensures .0)
+loop-less c = turn-less _ 0 _ _ (fits (c .before .before .before .before .before .before .before .before .before .before .before .before .before .before .before .before .before .before .before .before .before)) (picked (c .before .before .before .before .before .before .before .before .before .before .before .before .before .before .before .before .before .before .before .before .before)) (c .before .before .before .before .before .before .before .before .before .before .settle .ensures .0)
 
 loop-again : tie.Need-loop-again Inv-loop μ-loop
 unfolding graph-at
-loop-again c = (c .before .before .before .before .before .before .before .costs .given ∙ c .before .before .before .before .before .before .before .before .before .before .before .before .before .before .before .before .before .before .before .before .before .before .before .before .before .before .loop .inv .0, c .before .before .before .before .before .preds .given ∙ c .before .before .before .before .before .before .before .before .before .before .before .before .before .before .before .before .before .before .before .before .before .before .before .before .before .before .loop .inv .1, c .before .before .before .marks .given ∙ c .before .before .before .before .before .before .before .before .before .before .before .before .before .before .before .before .before .before .before .before .before .before .before .before .before .before .loop .inv .2, c .before .blocks2 .given ∙ c .before .before .before .before .before .before .before .before .before .before .before .before .before .before .before .before .before .before .before .before .before .before .before .before .before .before .loop .inv .3, c .before .before .before .before .before .before .before .before .before .before .before .before .before .before .found .given ∙ c .before .before .before .before .before .before .before .before .before .before .before .before .before .before .before .before .before .before .before .before .before .before .before .before .before .before .loop .inv .4, c .before .before .before .before .before .before .before .before .settle .ensures .1, λ k h. rw (c .before .before .before .before .before .before .before .before .before .before .before .before .before .before .before .note-goals .ensures .each k h) (served-on _ _ _ _ (c .before .before .before .before .before .before .before .before .before .before .before .before .before .before .before .before .before .before .before .before .before .before .before .before .before .before .loop .inv .6 k h) _ (fits (c .before .before .before .before .before .before .before .before .before .before .before .before .before .before .before .before .before .before)) (picked (c .before .before .before .before .before .before .before .before .before .before .before .before .before .before .before .before .before .before)) (c .before .before .before .before .before .before .before .before .settle .ensures .0)), c .before .before .before .before .before .before .before .before .before .before .before .before .before .before .before .note-goals .ensures .reached)
+loop-again c = (c .before .before .before .before .before .before .before .before .before .costs .given ∙ c .before .before .before .before .before .before .before .before .before .before .before .before .before .before .before .before .before .before .before .before .before .before .before .before .before .before .before .before .before .before .loop .inv .0, c .before .before .before .before .before .before .before .preds .given ∙ c .before .before .before .before .before .before .before .before .before .before .before .before .before .before .before .before .before .before .before .before .before .before .before .before .before .before .before .before .before .before .loop .inv .1, c .before .before .before .before .before .marks .given ∙ c .before .before .before .before .before .before .before .before .before .before .before .before .before .before .before .before .before .before .before .before .before .before .before .before .before .before .before .before .before .before .loop .inv .2, c .before .before .before .leaders .given ∙ c .before .before .before .before .before .before .before .before .before .before .before .before .before .before .before .before .before .before .before .before .before .before .before .before .before .before .before .before .before .before .loop .inv .3, c .before .keys .given ∙ c .before .before .before .before .before .before .before .before .before .before .before .before .before .before .before .before .before .before .before .before .before .before .before .before .before .before .before .before .before .before .loop .inv .4, c .before .before .before .before .before .before .before .before .before .before .before .before .before .before .before .before .before .found .given ∙ c .before .before .before .before .before .before .before .before .before .before .before .before .before .before .before .before .before .before .before .before .before .before .before .before .before .before .before .before .before .before .loop .inv .5, c .before .before .before .before .before .before .before .before .before .before .settle .ensures .1, λ k h. rw (c .before .before .before .before .before .before .before .before .before .before .before .before .before .before .before .before .before .before .note-goals .ensures .each k h) (served-on _ _ _ _ (c .before .before .before .before .before .before .before .before .before .before .before .before .before .before .before .before .before .before .before .before .before .before .before .before .before .before .before .before .before .before .loop .inv .7 k h) _ (fits (c .before .before .before .before .before .before .before .before .before .before .before .before .before .before .before .before .before .before .before .before .before)) (picked (c .before .before .before .before .before .before .before .before .before .before .before .before .before .before .before .before .before .before .before .before .before)) (c .before .before .before .before .before .before .before .before .before .before .settle .ensures .0)), c .before .before .before .before .before .before .before .before .before .before .before .before .before .before .before .before .before .before .note-goals .ensures .reached)
 
 enum-told : tie.Need-enum-told Inv-loop μ-loop
 enum-told c = search needs
 
 same-length : tie.Need-same-length Inv-loop μ-loop
-same-length c = c .before .before .before .before .before .before .before .loop .inv .0
+same-length c = c .before .before .before .before .before .before .before .before .loop .inv .0
 
 same-length-2 : tie.Need-same-length-2 Inv-loop μ-loop
-same-length-2 c = c .before .before .before .before .before .before .before .loop .inv .1
+same-length-2 c = c .before .before .before .before .before .before .before .before .loop .inv .1
 
 same-length-3 : tie.Need-same-length-3 Inv-loop μ-loop
-same-length-3 c = c .before .before .before .before .before .before .before .loop .inv .2
+same-length-3 c = c .before .before .before .before .before .before .before .before .loop .inv .2
 
 same-length-4 : tie.Need-same-length-4 Inv-loop μ-loop
-same-length-4 c = c .before .before .before .before .before .before .before .loop .inv .3
+same-length-4 c = c .before .before .before .before .before .before .before .before .loop .inv .3
 
 same-length-5 : tie.Need-same-length-5 Inv-loop μ-loop
-same-length-5 c = c .before .before .before .before .before .before .before .loop .inv .4
+same-length-5 c = c .before .before .before .before .before .before .before .before .loop .inv .4
+
+same-length-6 : tie.Need-same-length-6 Inv-loop μ-loop
+same-length-6 c = c .before .before .before .before .before .before .before .before .loop .inv .5
 
 returns : tie.Need-returns Inv-loop μ-loop
 unfolding next
-returns c = λ k h. served-none _ _ _ _ (c .before .before .before .before .before .before .before .loop .inv .6 k h) (sym (c .before .before .next-state .ensures) ∙ c .enum-told .given .1)
-
-same-length-6 : tie.Need-same-length-6 Inv-loop μ-loop
-same-length-6 c = c .before .loop .inv .0
+returns c = λ k h. served-none _ _ _ _ (c .before .before .before .before .before .before .before .before .loop .inv .7 k h) (sym (c .before .before .next-state .ensures) ∙ c .enum-told .given .1)
 
 same-length-7 : tie.Need-same-length-7 Inv-loop μ-loop
-same-length-7 c = c .before .loop .inv .1
+same-length-7 c = c .before .loop .inv .0
 
 same-length-8 : tie.Need-same-length-8 Inv-loop μ-loop
-same-length-8 c = c .before .loop .inv .2
+same-length-8 c = c .before .loop .inv .1
 
 same-length-9 : tie.Need-same-length-9 Inv-loop μ-loop
-same-length-9 c = c .before .loop .inv .3
+same-length-9 c = c .before .loop .inv .2
 
 same-length-10 : tie.Need-same-length-10 Inv-loop μ-loop
-same-length-10 c = c .before .loop .inv .4
+same-length-10 c = c .before .loop .inv .3
+
+same-length-11 : tie.Need-same-length-11 Inv-loop μ-loop
+same-length-11 c = c .before .loop .inv .4
+
+same-length-12 : tie.Need-same-length-12 Inv-loop μ-loop
+same-length-12 c = c .before .loop .inv .5
 
 returns-2 : tie.Need-returns-2 Inv-loop μ-loop
-returns-2 c = λ k h. served-reached _ _ _ _ (c .before .loop .inv .6 k h) (c .before .loop .inv .7 (omega (arith, c .loop-test .left)) k h)
+returns-2 c = λ k h. served-reached _ _ _ _ (c .before .loop .inv .7 k h) (c .before .loop .inv .8 (omega (arith, c .loop-test .left)) k h)
 
 pub serve-goals-spec : {M : Type 1} → statement M
 serve-goals-spec =
@@ -159,10 +166,12 @@ serve-goals-spec =
     same-length-3
     same-length-4
     same-length-5
-    returns
     same-length-6
+    returns
     same-length-7
     same-length-8
     same-length-9
     same-length-10
+    same-length-11
+    same-length-12
     returns-2)

@@ -1,0 +1,26 @@
+-- `routing::blocks::entry_at` meets its contract. Assumes nothing.
+use borrow.Author.Needs.{needs}
+use mathlib.Core.Path.{refl}
+use Rattle.routing.specs.Blocks.{entryAt}
+use Rattle.routing.proofs.blocks.entry_at.Statement.{statement}
+use Rattle.routing.proofs.blocks.entry_at.Tie as tie
+
+mul-t4 : tie.Need-mul-t4
+mul-t4 c = search needs
+
+shared-slice-read-t6 : tie.Need-shared-slice-read-t6
+shared-slice-read-t6 c = search needs
+
+mul-t7 : tie.Need-mul-t7
+mul-t7 c = search needs
+
+shared-slice-read-t9 : tie.Need-shared-slice-read-t9
+shared-slice-read-t9 c = search needs
+
+returns : tie.Need-returns
+unfolding entryAt
+returns c = refl
+
+pub entry-at-spec : {M : Type 1} → statement M
+entry-at-spec =
+    tie.close (tie.spec mul-t4 shared-slice-read-t6 mul-t7 shared-slice-read-t9 returns)
