@@ -1,4 +1,5 @@
 // The elements between two groups of a path.
+use crate::adjacent::are_adjacent;
 use crate::sides::Cheapest;
 use crate::sides::cheapest_sides;
 use crate::trace::elements_of;
@@ -139,8 +140,8 @@ fn bridges_between(
     }
 }
 
-// The elements between two, along the cheapest of the routes between their sides; none where no route is, or the cheapest costs under 1e-9. The network
-// was checked, and one index serves the three searches.
+// The elements between two, along the cheapest of the routes between their sides; none where no route is, or the cheapest costs under 1e-9: so it does where
+// an external edge leads from one to the other, and nothing is searched then. The network was checked, and one index serves the three searches.
 pub fn insert_bridges(
     lengths: &[f64],
     headings: &[f64],
@@ -157,6 +158,9 @@ pub fn insert_bridges(
     requires { ⌜ checked (networkOf (now lengths) (now headings) (now flags) (now from) (now to) (now «from_side») (now «to_side») (now forward) (now backward)) ≡ Checked.Accepted ⌝ }
     ensures { λ r. ⌜ r ≡ bridgesOf (between (networkOf (now (lengths .entry)) (now (headings .entry)) (now (flags .entry)) (now (from .entry)) (now (to .entry)) (now («from_side» .entry)) (now («to_side» .entry)) (now (forward .entry)) (now (backward .entry))) previous next) ⌝ }
 {
+    if are_adjacent(lengths.len(), from, to, forward, backward, previous, next) {
+        return no_bridges();
+    }
     let mut heads = no_heads();
     let mut nexts = no_nexts();
     index_links(
