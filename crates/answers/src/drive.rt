@@ -1,4 +1,8 @@
 // Opening, feeding and striking, and the used words.
+use crate::held_network::flags_of;
+use crate::held_network::headings_of;
+use crate::held_network::lengths_of;
+use crate::held_network::relations_of;
 use crate::host::BACKWARD;
 use crate::host::Cuts;
 use crate::host::DISTANCES;
@@ -18,10 +22,6 @@ use crate::host::release;
 use crate::host::settings_of;
 use crate::host::with_cursor;
 use crate::host::with_out;
-use crate::network::flags_of;
-use crate::network::headings_of;
-use crate::network::lengths_of;
-use crate::network::relations_of;
 use crate::parts::lend_numbers;
 use crate::parts::wide;
 use crate::print::Output;

@@ -1,8 +1,8 @@
 // The lines of the case language but for those on segments: what each reads of the text, which call it makes, and what it prints.
 pub mod drive;
 pub mod fill;
+pub mod held_network;
 pub mod host;
-pub mod network;
 pub mod parts;
 pub mod paths;
 pub mod print;

@@ -1,6 +1,11 @@
 // Routes between sides, and triples of elements.
 use crate::fill::FILL;
 use crate::fill::words_kept;
+use crate::held_network::MOST_ELEMENTS;
+use crate::held_network::flags_of;
+use crate::held_network::headings_of;
+use crate::held_network::lengths_of;
+use crate::held_network::relations_of;
 use crate::host::ANSWER;
 use crate::host::BACKWARD;
 use crate::host::Cuts;
@@ -17,11 +22,6 @@ use crate::host::release;
 use crate::host::release_asked;
 use crate::host::with_cursor;
 use crate::host::with_out;
-use crate::network::MOST_ELEMENTS;
-use crate::network::flags_of;
-use crate::network::headings_of;
-use crate::network::lengths_of;
-use crate::network::relations_of;
 use crate::parts::least;
 use crate::parts::lend_numbers;
 use crate::print::Output;
@@ -32,10 +32,10 @@ use crate::print::print_digits;
 use crate::print::print_float;
 use crate::print::print_number;
 use crate::print::print_refusal;
+use network::triple::Consistency;
+use network::triple::triple_is_consistent;
 use routing::route::Listing;
 use routing::route::shortest_path_route;
-use routing::triple::Consistency;
-use routing::triple::triple_is_consistent;
 use text::cursor::take_number;
 use text::list::first_numbers;
 

@@ -7,12 +7,12 @@ use native.Mathlib.Omega.{arith}
 use lib.ListN.{length}
 use lib.Ieee.{Float, lt, ofBits}
 use Rattle.journal.specs.WellFormed.{Each}
-use Rattle.routing.specs.declared.network.Checked.{Checked}
-use Rattle.routing.specs.declared.network.Checked.the-variants.{Accepted, Refused}
-use Rattle.routing.specs.Network.{Network, Graph, count, checked}
-use Rattle.routing.specs.Sound.{Sound}
+use Rattle.network.specs.declared.check.Checked.{Checked}
+use Rattle.network.specs.declared.check.Checked.the-variants.{Accepted, Refused}
+use Rattle.network.specs.Network.{Network, Graph, count, checked}
+use Rattle.network.specs.Sound.{Sound}
 use Rattle.routing.specs.Route.{route, routeStates}
-use Rattle.routing.proofs.Accepted.{accepted-sound}
+use Rattle.network.proofs.Accepted.{accepted-sound}
 use Rattle.transition.specs.Routes.{routesBy}
 use Rattle.transition.specs.Pair.{billionth}
 use Rattle.transition.proofs.Cases.{billionth-bits}

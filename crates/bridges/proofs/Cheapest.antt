@@ -3,9 +3,9 @@ use mathlib.Core.Path.{_≡_}
 use mathlib.Core.Bool.{true, false}
 use Prim.Native.Nat.{ℕ}
 use lib.Ieee.{Float, lt}
-use Rattle.routing.specs.Network.{Network, checked}
+use Rattle.network.specs.Network.{Network, checked}
 use Rattle.routing.specs.Route.{route, distanceBy, distanceOf}
-use Rattle.routing.specs.declared.network.Checked.the-variants.{Accepted, Refused}
+use Rattle.network.specs.declared.check.Checked.the-variants.{Accepted, Refused}
 use Rattle.routing.specs.declared.route.Route.{Route}
 use Rattle.routing.specs.declared.route.Route.the-variants.{Cost, Unreachable}
 use Rattle.transition.specs.declared.routes.Routes.{Routes}

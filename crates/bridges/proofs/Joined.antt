@@ -16,14 +16,14 @@ use Rattle.lists.proofs.Loops.{two, clash, and-both, both-and, or-either, any-s
 use Rattle.binary64.specs.Values.{pzero}
 use Rattle.binary64.proofs.Costs.{cost-pzero}
 use Rattle.binary64.proofs.Order.{taken, missed, le-left, lt→le, not-lt→le, lt-of-le-of-lt, lt-of-lt-of-le}
-use Rattle.routing.specs.declared.network.Checked.the-variants.{Accepted}
+use Rattle.network.specs.declared.check.Checked.the-variants.{Accepted}
 use Rattle.routing.specs.declared.route.Route.{Route}
 use Rattle.routing.specs.declared.route.Route.the-variants.{Cost, Unreachable}
-use Rattle.routing.specs.Network.{Relations, Network, Graph, count, relationCount, checked}
-use Rattle.routing.specs.Walks.{node, relationAt, usable, navigable, ahead, behind, Leads, External, forward, backward, Edge, external, Walk, start, onward}
+use Rattle.network.specs.Network.{Relations, Network, Graph, count, relationCount, checked}
+use Rattle.network.specs.Walks.{node, relationAt, usable, navigable, ahead, behind, Leads, External, forward, backward, Edge, external, Walk, start, onward}
 use Rattle.routing.specs.Route.{knownSide, route}
 use Rattle.routing.specs.Promise.{Joined, farthest}
-use Rattle.routing.proofs.Accepted.{accepted-sound}
+use Rattle.network.proofs.Accepted.{accepted-sound}
 use Rattle.routing.proofs.Promise.{accepted-promise}
 use Rattle.transition.specs.declared.routes.Routes.{Routes}
 use Rattle.transition.specs.Routes.{routesBy}

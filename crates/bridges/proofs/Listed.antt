@@ -11,8 +11,8 @@ use Rattle.routing.specs.declared.route.Route.{Route}
 use Rattle.routing.specs.declared.route.Route.the-variants.{Cost, Unreachable}
 use Rattle.routing.specs.declared.route.Listing.{Listing}
 use Rattle.routing.specs.declared.route.Listing.the-variants.{Listed, NoRoute, Refused}
-use Rattle.routing.specs.Network.{Graph}
-use Rattle.routing.specs.Sound.{Sound}
+use Rattle.network.specs.Network.{Graph}
+use Rattle.network.specs.Sound.{Sound}
 use Rattle.routing.specs.Route.{route, routeStates, listingOf, stored}
 use Rattle.bridges.specs.declared.insert.Bridges.{Bridges}
 use Rattle.bridges.specs.Bridges.{traced}

@@ -12,16 +12,16 @@ use Rattle.lists.proofs.Loops.{two}
 use Rattle.journal.specs.WellFormed.{Each}
 use Rattle.routing.specs.declared.search.Pick.{Pick}
 use Rattle.routing.specs.declared.search.Pick.the-variants.{At, Nothing}
-use Rattle.routing.specs.declared.network.Checked.the-variants.{Accepted}
+use Rattle.network.specs.declared.check.Checked.the-variants.{Accepted}
 use Rattle.routing.specs.declared.route.Route.{Route}
 use Rattle.routing.specs.declared.route.Route.the-variants.{Cost, Unreachable}
-use Rattle.routing.specs.Network.{Network, Graph, count, checked}
-use Rattle.routing.specs.Walks.{node, Walk, start, onward}
-use Rattle.routing.specs.Sound.{Sound}
+use Rattle.network.specs.Network.{Network, Graph, count, checked}
+use Rattle.network.specs.Walks.{node, Walk, start, onward}
+use Rattle.network.specs.Sound.{Sound}
 use Rattle.routing.specs.Search.{Within, Search, Ended, searched}
 use Rattle.routing.specs.Route.{knownSide, endCost, costOfEnd, route, unless, stepsBack, back, endStates, statesOfEnd, routeStates}
 use Rattle.routing.specs.Promise.{Cheapest}
-use Rattle.routing.proofs.Accepted.{accepted-sound}
+use Rattle.network.proofs.Accepted.{accepted-sound}
 use Rattle.routing.proofs.Kept.{searched-preds, searched-within}
 use Rattle.routing.proofs.Routes.{length-back, known-node}
 use Rattle.routing.proofs.WalkCosts.{edge-lands}

@@ -5,7 +5,7 @@ use mathlib.Core.Bool.{Bool, false, cond, _||_}
 use mathlib.Core.List.{List, [], _∷_, _++_}
 use lib.Dec.{eqb}
 use lib.Ieee.{lt}
-use Rattle.routing.specs.Network.{Network, Graph}
+use Rattle.network.specs.Network.{Network, Graph}
 use Rattle.routing.specs.Route.{routeStates, distanceOf}
 use Rattle.routing.specs.declared.route.Route.{Route}
 use Rattle.routing.specs.declared.route.Route.the-variants.{Cost, Unreachable}

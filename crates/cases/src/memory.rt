@@ -3,13 +3,13 @@ use crate::held::HELD_INTRINSICS;
 use crate::held::HELD_NUMBERS;
 use crate::held::HeldIntrinsics;
 use crate::held::HeldNumbers;
+use answers::held_network::FLOATS;
+use answers::held_network::NUMBERS;
+use answers::held_network::NetworkFloats;
+use answers::held_network::NetworkNumbers;
 use answers::host::Cuts;
 use answers::host::SLICES;
 use answers::host::WHOLE;
-use answers::network::FLOATS;
-use answers::network::NUMBERS;
-use answers::network::NetworkFloats;
-use answers::network::NetworkNumbers;
 use answers::print::OUTPUT_BYTES;
 use answers::print::Output;
 

@@ -8,8 +8,8 @@ use mathlib.Core.List.{List}
 use mathlib.Core.Option.{none}
 use lib.ListN.{length}
 use Rattle.binary64.proofs.Order.{taken}
-use Rattle.routing.specs.Network.{Network, count}
-use Rattle.routing.proofs.Accepted.{accepted-counts}
+use Rattle.network.specs.Network.{Network, count}
+use Rattle.network.proofs.Accepted.{accepted-counts}
 use Rattle.journal.specs.Ranges.{intrinsicOk, distanceOk}
 use Rattle.journal.specs.WellFormed.{Each}
 use Rattle.journal.proofs.Rules.{candidate-rules}

@@ -13,8 +13,8 @@ use lib.Ieee.Fits.{and-l, and-r}
 use lib.Ieee.Bits.{is-true}
 use Rattle.lists.proofs.Loops.{every-at}
 use Rattle.binary64.proofs.Order.{taken}
-use Rattle.routing.specs.Network.{Network, count}
-use Rattle.routing.proofs.Accepted.{accepted-counts}
+use Rattle.network.specs.Network.{Network, count}
+use Rattle.network.proofs.Accepted.{accepted-counts}
 use Rattle.transition.specs.Step.{transition}
 use Rattle.transition.specs.declared.step.Settings.{Settings}
 use Rattle.journal.specs.Lists.{all}

@@ -6,8 +6,8 @@ use mathlib.Core.List.{List}
 use mathlib.Core.Option.{Option, none, some}
 use lib.ListN.{length, getD}
 use lib.Ieee.{Float}
-use Rattle.routing.specs.Network.{Network, count, checked}
-use Rattle.routing.specs.declared.network.Checked.the-variants.{Accepted}
+use Rattle.network.specs.Network.{Network, count, checked}
+use Rattle.network.specs.declared.check.Checked.the-variants.{Accepted}
 use Rattle.transition.specs.Step.{transition}
 use Rattle.transition.specs.declared.step.Settings.{Settings}
 use Rattle.journal.specs.Lists.{all}

@@ -12,8 +12,8 @@ use Rattle.binary64.specs.Ranges.{inRange, inClearRange, inOpenRange}
 use Rattle.routing.specs.declared.route.Route.the-variants.{Cost, Unreachable}
 use Rattle.routing.specs.declared.route.Distance.{Distance}
 use Rattle.routing.specs.declared.route.Distance.the-variants.{Known}
-use Rattle.routing.specs.Network.{Relations, relationsOf, Network, countsFit, lengthFits, lengthsFit, headingFits, headingsFit, sidesFit, elementsDiffer, orRefuse, checked}
-use Rattle.routing.specs.Walks.{node, opposite, relationAt, usable, navigable, ahead, behind}
+use Rattle.network.specs.Network.{Relations, relationsOf, Network, countsFit, lengthFits, lengthsFit, headingFits, headingsFit, sidesFit, elementsDiffer, orRefuse, checked}
+use Rattle.network.specs.Walks.{node, opposite, relationAt, usable, navigable, ahead, behind}
 use Rattle.routing.specs.Search.{costOf, better, pickOf, lower, follow, followBoth, followAt, relaxExternal, relaxInternal, relax, settled, next, arrive, turn, run, noCosts, noPreds, noMarks, begun, searched}
 use Rattle.routing.specs.Route.{knownSide, endCost, costOfEnd, route, distanceBy, distanceOf}
 use Rattle.journal.specs.declared.record.Candidate.{Candidate}

@@ -6,7 +6,7 @@ use journal::call::strike;
 use transition::step::Settings;
 ghost use mathlib.Core.Path.{_≡_};
 ghost use lib.ListN.{length};
-ghost use Rattle.routing.specs.Network.{networkOf};
+ghost use Rattle.network.specs.Network.{networkOf};
 ghost use Rattle.transition.specs.Step.{transition};
 ghost use Rattle.journal.specs.Row.{givenOf};
 ghost use Rattle.journal.specs.Call.{opening, striking};

@@ -6,7 +6,7 @@ use segments::collapse::remove_oscillations;
 use segments::segment::Segment;
 ghost use mathlib.Core.Path.{_≡_};
 ghost use lib.ListN.{length};
-ghost use Rattle.routing.specs.Network.{networkOf};
+ghost use Rattle.network.specs.Network.{networkOf};
 ghost use Rattle.segments.specs.Build.{building, answered, stored};
 ghost use Rattle.segments.specs.Collapse.{collapsing};
 ghost use Rattle.host.specs.Status.{builtStatus, builtCount, collapsedStatus, collapsedLeft, collapsedDecided};

@@ -9,7 +9,7 @@ use transition::step::Settings;
 ghost use mathlib.Core.Path.{_≡_};
 ghost use Prim.Native.Nat.{min};
 ghost use lib.ListN.{length};
-ghost use Rattle.routing.specs.Network.{networkOf};
+ghost use Rattle.network.specs.Network.{networkOf};
 ghost use Rattle.decoder.specs.Call.{closingOn};
 ghost use Rattle.closing.specs.Walk.{rowOf, candidateOf};
 ghost use Rattle.closing.specs.Close.{answered, stored};

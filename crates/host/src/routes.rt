@@ -3,15 +3,15 @@ use crate::status::of_checked;
 use crate::status::of_consistency;
 use crate::status::of_distance;
 use crate::status::of_listing;
-use routing::network::check_network;
+use network::check::check_network;
+use network::triple::triple_is_consistent;
 use routing::route::shortest_path_distance;
 use routing::route::shortest_path_route;
-use routing::triple::triple_is_consistent;
 ghost use mathlib.Core.Path.{_≡_};
 ghost use lib.ListN.{length};
-ghost use Rattle.routing.specs.Network.{graphOf, networkOf, checked};
+ghost use Rattle.network.specs.Network.{graphOf, networkOf, checked};
 ghost use Rattle.routing.specs.Route.{distanceOf, listing, stored, routeStates};
-ghost use Rattle.routing.specs.Triple.{consistency};
+ghost use Rattle.network.specs.Triple.{consistency};
 ghost use Rattle.host.specs.Status.{checkedStatus, distanceStatus, distanceCost, listingStatus, listingCost, listingCount, tripleStatus, tripleFlag};
 
 // Checks 1 to 5 on the network.

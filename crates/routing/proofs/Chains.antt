@@ -15,14 +15,14 @@ use borrow.Author.Tests.{eq-eqb, ne-eqb, eqb-true}
 use Rattle.lists.specs.Loops.{upTo}
 use Rattle.lists.proofs.Loops.{clash, two, and-both, both-and}
 use Rattle.binary64.specs.Values.{pzero}
-use Rattle.routing.specs.declared.link.Relation.{Relation}
-use Rattle.routing.specs.declared.link.Link.{Link}
-use Rattle.routing.specs.Network.{Relations, relationCount}
-use Rattle.routing.specs.Walks.{relationAt, ahead, behind}
+use Rattle.network.specs.declared.link.Relation.{Relation}
+use Rattle.network.specs.declared.link.Link.{Link}
+use Rattle.network.specs.Network.{Relations, relationCount}
+use Rattle.network.specs.Walks.{relationAt, ahead, behind}
 use Rattle.routing.specs.Search.{Tables, lower, follow, followBoth, followAt, relaxExternal}
-use Rattle.routing.specs.Sound.{Even, Lands}
+use Rattle.network.specs.Sound.{Even, Lands}
 use Rattle.routing.specs.Index.{linkCount, linkAt, leadsOut, firstOut, Indexed, noHeads, noNexts}
-use Rattle.routing.proofs.Links.{sides-at, ahead-lands, behind-lands, ahead-starts, behind-starts}
+use Rattle.network.proofs.Links.{sides-at, ahead-lands, behind-lands, ahead-starts, behind-starts}
 
 module _ (elements : ℕ) (rs : Relations) where
   abbrev link : ℕ → Link

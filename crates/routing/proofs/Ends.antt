@@ -15,10 +15,10 @@ use Rattle.lists.proofs.Loops.{clash}
 use Rattle.binary64.specs.Values.{pzero}
 use Rattle.routing.specs.declared.search.Pick.{Pick}
 use Rattle.routing.specs.declared.search.Pick.the-variants.{At, Nothing}
-use Rattle.routing.specs.Network.{Graph, count}
-use Rattle.routing.specs.Walks.{start}
+use Rattle.network.specs.Network.{Graph, count}
+use Rattle.network.specs.Walks.{start}
 use Rattle.routing.specs.Search.{costOf, Search, settled, next, left, noCosts, begun, searched}
-use Rattle.routing.specs.Sound.{Sound}
+use Rattle.network.specs.Sound.{Sound}
 use Rattle.routing.specs.Promise.{Joined}
 use Rattle.routing.proofs.Turns.{one-less, unmarked, left-all}
 use Rattle.routing.proofs.Runs.{run-ends}

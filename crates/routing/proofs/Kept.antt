@@ -8,9 +8,9 @@ use lib.ListN.{length, getD, set, replicate, length-set, length-replicate}
 use lib.Ieee.{Float, nan, inf, lt}
 use Rattle.binary64.specs.Values.{pzero}
 use Rattle.routing.specs.declared.search.Pick.the-variants.{At}
-use Rattle.routing.specs.Network.{Graph, count}
+use Rattle.network.specs.Network.{Graph, count}
 use Rattle.routing.specs.Search.{Within, Tables, tables, lower, Search, settled, next, noCosts, noPreds, noMarks, begun, searched}
-use Rattle.routing.specs.Sound.{Sound}
+use Rattle.network.specs.Sound.{Sound}
 use Rattle.routing.proofs.Turns.{repeated, below, kept-relax}
 use Rattle.routing.proofs.Runs.{run-ends}
 

@@ -1,6 +1,5 @@
 -- The laws that the proofs of `routing` cite. Each file's first lines say what it shows.
 pub mod Picks
-pub mod Links
 pub mod Turns
 pub mod Runs
 pub mod Kept
@@ -13,10 +12,8 @@ pub mod Chains
 pub mod Traces
 pub mod Settling
 pub mod Ends
-pub mod Accepted
 pub mod Back
 pub mod Routes
 pub mod Served
 pub mod Noting
 pub mod Promise
-pub mod Connected

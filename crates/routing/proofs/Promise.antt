@@ -16,14 +16,14 @@ use Rattle.routing.specs.declared.search.Pick.{Pick}
 use Rattle.routing.specs.declared.search.Pick.the-variants.{At, Nothing}
 use Rattle.routing.specs.declared.route.Route.{Route}
 use Rattle.routing.specs.declared.route.Route.the-variants.{Cost, Unreachable}
-use Rattle.routing.specs.declared.network.Checked.the-variants.{Accepted}
-use Rattle.routing.specs.Network.{Network, Graph, count, lengthFits, checked}
-use Rattle.routing.specs.Walks.{node, start}
+use Rattle.network.specs.declared.check.Checked.the-variants.{Accepted}
+use Rattle.network.specs.Network.{Network, Graph, count, lengthFits, checked}
+use Rattle.network.specs.Walks.{node, start}
 use Rattle.routing.specs.Search.{Search, searched}
-use Rattle.routing.specs.Sound.{Sound}
+use Rattle.network.specs.Sound.{Sound}
 use Rattle.routing.specs.Route.{knownSide, endCost, costOfEnd, route, endStates, statesOfEnd, routeStates}
 use Rattle.routing.specs.Promise.{Joined, Cheapest, Promise}
-use Rattle.routing.proofs.Accepted.{accepted-sound, accepted-lengths}
+use Rattle.network.proofs.Accepted.{accepted-sound, accepted-lengths}
 use Rattle.routing.proofs.Routes.{known-node}
 use Rattle.routing.proofs.WalkCosts.{walk-cost, walk-near}
 use Rattle.routing.proofs.Traces.{trace-listed}

@@ -17,11 +17,11 @@ use Rattle.lists.proofs.Loops.{clash}
 use Rattle.binary64.specs.Values.{pzero}
 use Rattle.binary64.proofs.Order.{taken, missed, le-left, le-refl, le-trans, lt→le, not-lt→le, lt-of-lt-of-le}
 use Rattle.binary64.proofs.Sum.{clear-number}
-use Rattle.routing.specs.declared.link.Link.{Link}
-use Rattle.routing.specs.Network.{Graph, count, relationCount}
-use Rattle.routing.specs.Walks.{opposite, relationAt, ahead, behind, Leads, External, forward, backward, Edge, internal, external}
+use Rattle.network.specs.declared.link.Link.{Link}
+use Rattle.network.specs.Network.{Graph, count, relationCount}
+use Rattle.network.specs.Walks.{opposite, relationAt, ahead, behind, Leads, External, forward, backward, Edge, internal, external}
 use Rattle.routing.specs.Search.{Tables, tables, lower, follow, followBoth, followAt, relaxExternal, relaxInternal, relax}
-use Rattle.routing.specs.Sound.{Sound}
+use Rattle.network.specs.Sound.{Sound}
 use Rattle.routing.proofs.WalkCosts.{Ranged, WalkCost, edge-lands, edge-cost}
 
 abbrev pub costAt : Tables → ℕ → Float

@@ -13,21 +13,20 @@ use Rattle.lists.proofs.Loops.{and-both}
 use Rattle.binary64.specs.Values.{pzero}
 use Rattle.routing.specs.declared.search.Pick.{Pick}
 use Rattle.routing.specs.declared.search.Pick.the-variants.{At, Nothing}
-use Rattle.routing.specs.declared.network.Checked.{Checked}
-use Rattle.routing.specs.declared.network.Checked.the-variants.{Accepted, Refused}
+use Rattle.network.specs.declared.check.Checked.{Checked}
+use Rattle.network.specs.declared.check.Checked.the-variants.{Accepted, Refused}
 use Rattle.routing.specs.declared.route.Route.{Route}
 use Rattle.routing.specs.declared.route.Route.the-variants.{Cost, Unreachable}
 use Rattle.routing.specs.declared.route.Distance.the-variants.{Known, Refused as DistanceRefused}
 use Rattle.routing.specs.declared.route.Listing.{Listing}
 use Rattle.routing.specs.declared.route.Listing.the-variants.{NoRoute, Refused as ListingRefused}
-use Rattle.routing.specs.declared.triple.Consistency.the-variants.{Refused as ConsistencyRefused}
-use Rattle.routing.specs.Network.{Network, Graph, count, checked}
-use Rattle.routing.specs.Walks.{node}
-use Rattle.routing.specs.Sound.{Sound, Room}
+use Rattle.network.specs.Network.{Network, Graph, count, checked}
+use Rattle.network.specs.Walks.{node}
+use Rattle.network.specs.Sound.{Sound}
+use Rattle.routing.specs.Search.{Room}
 use Rattle.routing.specs.Search.{Within, Tables, Search, searchOf, Ended, run, left, noCosts, noPreds, noMarks, begun, searched}
 use Rattle.routing.specs.Blocks.{noLeaders, noKeys, Led, Blocks}
 use Rattle.routing.specs.Route.{knownSide, endCost, costOfEnd, route, stepsBack, back, endStates, statesOfEnd, routeStates, distanceBy, distanceOf, listingOf, listingBy, listing, stored}
-use Rattle.routing.specs.Triple.{consistent, consistencyOf, consistencyBy, consistency}
 use Rattle.routing.proofs.Turns.{left-all}
 use Rattle.routing.proofs.Leaders.{led-none, none-lowered, blocks-begun}
 use Rattle.routing.proofs.Kept.{begun-full, searched-lengths, searched-preds, searched-within}
@@ -175,14 +174,3 @@ module _ (net : Network) (element side element′ side′ : ℕ) {a : Checked} (
     pub listing-refused : (k : ℕ) → a ≡ Refused k → ListingRefused k ≡ listing net element side element′ side′ room
     unfolding listing listingBy
     listing-refused k e = rw (sym told ∙ e)
-
--- ---- triples
-
-module _ (net : Network) (a b c : ℕ) {answer : Checked} (told : answer ≡ checked net) where
-  pub consistency-accepted : answer ≡ Accepted → {r : Bool} → r ≡ consistent (net .graph) a b c → consistencyOf r ≡ consistency net a b c
-  unfolding consistency consistencyBy
-  consistency-accepted e h = rw (sym told ∙ e, h)
-
-  pub consistency-refused : (k : ℕ) → answer ≡ Refused k → ConsistencyRefused k ≡ consistency net a b c
-  unfolding consistency consistencyBy
-  consistency-refused k e = rw (sym told ∙ e)

@@ -6,7 +6,7 @@ use lib.Dec.{eqb}
 use borrow.Author.Tests.{eqb-true, eqb-false}
 use Rattle.routing.specs.declared.search.Pick.{Pick}
 use Rattle.routing.specs.declared.search.Pick.the-variants.{At, Nothing}
-use Rattle.routing.specs.Network.{Graph}
+use Rattle.network.specs.Network.{Graph}
 use Rattle.routing.specs.Search.{Search, settled, next, Ended, arrive, turn, run}
 
 -- `Holds turns q`: of a search q with so many turns left

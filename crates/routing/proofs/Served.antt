@@ -10,7 +10,7 @@ use borrow.Author.Tests.{eqb-true, eqb-false}
 use Rattle.lists.proofs.Loops.{two, clash}
 use Rattle.routing.specs.declared.search.Pick.the-variants.{At, Nothing}
 use Rattle.routing.specs.declared.route.Route.the-variants.{Cost}
-use Rattle.routing.specs.Network.{Graph, count}
+use Rattle.network.specs.Network.{Graph, count}
 use Rattle.routing.specs.Search.{Search, settled, next, Ended, run, left}
 use Rattle.routing.specs.Route.{endCost, costOfEnd}
 use Rattle.routing.specs.Goals.{routeOf, noted}

@@ -18,10 +18,11 @@ use Rattle.binary64.proofs.Sum.{clear-number}
 use Rattle.binary64.proofs.Costs.{clear-le}
 use Rattle.routing.specs.declared.search.Pick.{Pick}
 use Rattle.routing.specs.declared.search.Pick.the-variants.{At}
-use Rattle.routing.specs.Network.{Graph, count}
-use Rattle.routing.specs.Walks.{Edge, Walk, start, onward}
+use Rattle.network.specs.Network.{Graph, count}
+use Rattle.network.specs.Walks.{Edge, Walk, start, onward}
 use Rattle.routing.specs.Search.{costOf, Tables, relax, Search, settled, next, left}
-use Rattle.routing.specs.Sound.{Sound, Room}
+use Rattle.network.specs.Sound.{Sound}
+use Rattle.routing.specs.Search.{Room}
 use Rattle.routing.proofs.Picks.{picked-open}
 use Rattle.routing.proofs.Turns.{below, one-less}
 use Rattle.routing.proofs.WalkCosts.{Ranged, WalkCost, edge-lands, edge-grows, edge-mono, walk-cost}

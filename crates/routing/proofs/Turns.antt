@@ -13,12 +13,12 @@ use lib.Seq.{getD-set-same, getD-set-other}
 use lib.Ieee.{Float, nan, add, binary64}
 use borrow.Author.Tests.{eq-eqb, ne-eqb}
 use Rattle.lists.specs.Loops.{upTo}
-use Rattle.routing.specs.declared.link.Link.{Link}
+use Rattle.network.specs.declared.link.Link.{Link}
 use Rattle.routing.specs.declared.search.Pick.{Pick}
 use Rattle.routing.specs.declared.search.Pick.the-variants.{At, Nothing}
-use Rattle.routing.specs.Network.{Graph, count, relationCount}
-use Rattle.routing.specs.Walks.{opposite}
-use Rattle.routing.specs.Sound.{Room}
+use Rattle.network.specs.Network.{Graph, count, relationCount}
+use Rattle.network.specs.Walks.{opposite}
+use Rattle.routing.specs.Search.{Room}
 use Rattle.routing.specs.Search.{Within, Tables, tables, lower, follow, followBoth, followAt, relaxExternal, relaxInternal, relax, Search, settled, next, Ended, endedAt, arrive, turn, run, left, noMarks}
 use Rattle.routing.proofs.Picks.{pick-within, picked-open}
 

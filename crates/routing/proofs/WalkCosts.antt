@@ -18,11 +18,11 @@ use Rattle.binary64.proofs.Sum.{add-mono}
 use Rattle.binary64.proofs.Costs.{cost-sum, cost-number, cost-grows, cost-mono-left}
 use Rattle.binary64.proofs.Ranges.{range-high, clear-range-range, clear-range-clear}
 use Rattle.binary64.proofs.Bounds.{upper-whole}
-use Rattle.routing.specs.Network.{Graph, count, longest, lengthFits}
-use Rattle.routing.specs.Walks.{opposite, External, forward, backward, Edge, internal, external, Walk, start, onward}
-use Rattle.routing.specs.Sound.{Sound}
+use Rattle.network.specs.Network.{Graph, count, longest, lengthFits}
+use Rattle.network.specs.Walks.{opposite, External, forward, backward, Edge, internal, external, Walk, start, onward}
+use Rattle.network.specs.Sound.{Sound}
 use Rattle.routing.specs.Promise.{farthest}
-use Rattle.routing.proofs.Links.{sides-at, ahead-lands, behind-lands}
+use Rattle.network.proofs.Links.{sides-at, ahead-lands, behind-lands}
 
 -- every length is in its range
 abbrev pub Ranged : Graph → Type 0

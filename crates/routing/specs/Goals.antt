@@ -8,7 +8,7 @@ use lib.ListN.{length, getD}
 use lib.Ieee.{Float, nan, inf, lt}
 use Rattle.routing.specs.declared.route.Route.{Route}
 use Rattle.routing.specs.declared.route.Route.the-variants.{Cost, Unreachable}
-use Rattle.routing.specs.Network.{Graph}
+use Rattle.network.specs.Network.{Graph}
 use Rattle.routing.specs.Search.{searched}
 use Rattle.routing.specs.Route.{costOfEnd}
 

@@ -6,9 +6,9 @@ use mathlib.Core.List.{List}
 use mathlib.Core.Path.{_≡_}
 use lib.Dec.{eqb}
 use lib.ListN.{length, getD, replicate}
-use Rattle.routing.specs.declared.link.Link.{Link}
-use Rattle.routing.specs.Network.{Relations, relationCount}
-use Rattle.routing.specs.Walks.{relationAt, ahead, behind}
+use Rattle.network.specs.declared.link.Link.{Link}
+use Rattle.network.specs.Network.{Relations, relationCount}
+use Rattle.network.specs.Walks.{relationAt, ahead, behind}
 
 -- relation k has link 2k, ahead, and link 2k + 1, behind
 abbrev pub linkCount : Relations → ℕ

@@ -9,8 +9,8 @@ use lib.Dec.{T}
 use lib.IntN.{pos}
 use lib.Ieee.{Float, fin, le}
 use Rattle.routing.specs.declared.route.Route.the-variants.{Cost, Unreachable}
-use Rattle.routing.specs.Network.{Graph, count}
-use Rattle.routing.specs.Walks.{node, Walk}
+use Rattle.network.specs.Network.{Graph, count}
+use Rattle.network.specs.Walks.{node, Walk}
 use Rattle.routing.specs.Route.{knownSide, route, routeStates}
 
 -- 2 ^ 32 m

@@ -5,8 +5,8 @@ use mathlib.Core.List.{List, [], _∷_, _++_, reverse}
 use lib.Dec.{ltb, leb, eqb}
 use lib.ListN.{length, getD, drop}
 use lib.Ieee.{Float, nan}
-use Rattle.routing.specs.declared.network.Checked.{Checked}
-use Rattle.routing.specs.declared.network.Checked.the-variants.{Accepted, Refused}
+use Rattle.network.specs.declared.check.Checked.{Checked}
+use Rattle.network.specs.declared.check.Checked.the-variants.{Accepted, Refused}
 use Rattle.routing.specs.declared.search.Pick.{Pick}
 use Rattle.routing.specs.declared.search.Pick.the-variants.{At, Nothing}
 use Rattle.routing.specs.declared.route.Route.{Route}
@@ -15,8 +15,8 @@ use Rattle.routing.specs.declared.route.Distance.{Distance}
 use Rattle.routing.specs.declared.route.Distance.the-variants.{Known, Refused as DistanceRefused}
 use Rattle.routing.specs.declared.route.Listing.{Listing}
 use Rattle.routing.specs.declared.route.Listing.the-variants.{Listed, NoRoute, Refused as ListingRefused}
-use Rattle.routing.specs.Network.{Graph, Network, count, checked}
-use Rattle.routing.specs.Walks.{node}
+use Rattle.network.specs.Network.{Graph, Network, count, checked}
+use Rattle.network.specs.Walks.{node}
 use Rattle.routing.specs.Search.{Search, Ended, searched}
 
 unfoldable pub knownSide : ℕ → ℕ → ℕ → Bool

@@ -1,19 +1,19 @@
 -- The search for a route: settle the cheapest unsettled state, the lowest number among equals; lower what its edges reach; end at the first
 -- settled state of the goal (document 01, "Equal routes").
-use Prim.Native.Nat.{ℕ, zero, suc, _+_, _*_, _/_, _%_, _<_}
+use Prim.Native.Nat.{ℕ, zero, suc, _+_, _*_, _/_, _%_, _<_, _≤_}
 use mathlib.Core.Bool.{Bool, true, false, cond}
 use mathlib.Core.List.{List}
 use lib.Dec.{eqb}
-use lib.ListN.{getD, set, replicate}
+use lib.ListN.{length, getD, set, replicate}
 use lib.Ieee.{Float, nan, inf, lt, add, binary64}
 use Rattle.lists.specs.Loops.{upTo}
 use Rattle.binary64.specs.Values.{pzero}
-use Rattle.routing.specs.declared.link.Relation.{Relation}
-use Rattle.routing.specs.declared.link.Link.{Link}
+use Rattle.network.specs.declared.link.Relation.{Relation}
+use Rattle.network.specs.declared.link.Link.{Link}
 use Rattle.routing.specs.declared.search.Pick.{Pick}
 use Rattle.routing.specs.declared.search.Pick.the-variants.{At, Nothing}
-use Rattle.routing.specs.Network.{Relations, Graph, count, relationCount}
-use Rattle.routing.specs.Walks.{opposite, relationAt, ahead, behind}
+use Rattle.network.specs.Network.{Relations, Graph, count, relationCount}
+use Rattle.network.specs.Walks.{opposite, relationAt, ahead, behind}
 
 -- ---- which state settles next
 
@@ -83,6 +83,12 @@ pub record Search : Type 0 where
 
 abbrev pub searchOf : List Float → List ℕ → List Bool → Search
 searchOf costs preds marks = record { tables = tables costs preds; marks = marks }
+
+-- tables of four entries per element
+pub record Room (elements : ℕ) (q : Search) : Type 0 where
+  pub costs : 4 * elements ≤ length (q .tables .costs)
+  pub preds : 4 * elements ≤ length (q .tables .preds)
+  pub marks : 4 * elements ≤ length (q .marks)
 
 unfoldable pub settled : Graph → ℕ → Search → Search
 settled g s q = record { tables = relax g s (q .tables); marks = set (q .marks) s true }

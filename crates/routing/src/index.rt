@@ -1,15 +1,15 @@
 // The links out of each node, in order: `heads` has a node's first link, `nexts` which one comes after a link.
-use crate::link::Link;
-use crate::link::link_ahead;
-use crate::link::link_behind;
-use crate::link::relation_at;
+use network::link::Link;
+use network::link::link_ahead;
+use network::link::link_behind;
+use network::link::relation_at;
 ghost use mathlib.Core.Bool.{true, cond};
 ghost use mathlib.Core.Path.{_≡_};
-ghost use Prim.Native.Nat.{_<_};
+ghost use Prim.Native.Nat.{_*_, _<_};
 ghost use lib.ListN.{length, getD, set};
-ghost use Rattle.routing.specs.Network.{graphOf, relationsOf};
-ghost use Rattle.routing.specs.Sound.{Sound};
-ghost use Rattle.routing.specs.Index.{Indexed, noHeads, noNexts};
+ghost use Rattle.network.specs.Network.{graphOf, relationsOf};
+ghost use Rattle.network.specs.Sound.{Even, Sound};
+ghost use Rattle.routing.specs.Index.{linkAt, Indexed, noHeads, noNexts};
 
 pub fn no_heads() -> [u16; 2048]
     ensures { λ r. ⌜ r ≡ noHeads ⌝ }
@@ -61,4 +61,32 @@ pub fn index_links(
         add_link(heads, nexts, link_behind(elements, r), 2 * k + 1);
         add_link(heads, nexts, link_ahead(elements, r), 2 * k);
     }
+}
+
+pub fn link_number(x: u16) -> usize
+    ensures { λ r. ⌜ r ≡ x ⌝ }
+{
+    x as usize
+}
+
+// Of relation k, link 2k is the one ahead and link 2k + 1 the one behind.
+pub fn link_at(
+    elements: usize,
+    from: &[u32],
+    to: &[u32],
+    from_side: &[u32],
+    to_side: &[u32],
+    forward: &[u32],
+    backward: &[u32],
+    e: usize,
+) -> Link
+    requires { ⌜ Even (relationsOf (now from) (now to) (now «from_side») (now «to_side») (now forward) (now backward)) ⌝ }
+    requires { ⌜ e < 2 * length (now from) ⌝ }
+    ensures { λ l. ⌜ l ≡ linkAt elements (relationsOf (now (from .entry)) (now (to .entry)) (now («from_side» .entry)) (now («to_side» .entry)) (now (forward .entry)) (now (backward .entry))) e ⌝ }
+{
+    let r = relation_at(from, to, from_side, to_side, forward, backward, e / 2);
+    if e % 2 == 0 {
+        return link_ahead(elements, r);
+    }
+    link_behind(elements, r)
 }

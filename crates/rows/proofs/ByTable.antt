@@ -9,7 +9,7 @@ use lib.ListN.{length, getD}
 use lib.Ieee.{Float}
 use lib.Ieee.Scale.{finite}
 use Rattle.lists.proofs.Loops.{two, clash, any-stop}
-use Rattle.routing.specs.Network.{Network}
+use Rattle.network.specs.Network.{Network}
 use Rattle.journal.specs.Row.{Row, Given, distanceOf, cellOf, scoreOf, candidateGiven, fixGiven}
 use Rattle.journal.specs.declared.record.Candidate.{Candidate}
 use Rattle.transition.specs.declared.step.Settings.{Settings}

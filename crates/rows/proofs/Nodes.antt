@@ -14,8 +14,8 @@ use lib.Ieee.Scale.{finite}
 use borrow.Author.Tests.{eq-eqb, ne-eqb}
 use Rattle.lists.specs.Loops.{any}
 use Rattle.lists.proofs.Loops.{clash, any-turn, any-stop, any-done}
-use Rattle.routing.specs.Network.{Graph, count}
-use Rattle.routing.specs.Walks.{node}
+use Rattle.network.specs.Network.{Graph, count}
+use Rattle.network.specs.Walks.{node}
 use Rattle.routing.specs.Route.{route}
 use Rattle.journal.specs.Row.{Row, cellOf, scoreOf}
 use Rattle.journal.specs.declared.record.Candidate.{Candidate}

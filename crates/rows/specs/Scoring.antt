@@ -7,8 +7,8 @@ use mathlib.Core.Option.{Option, none, some}
 use lib.ListN.{length, getD, drop}
 use lib.Ieee.{Float, nan, lt, le}
 use Rattle.lists.specs.Loops.{any}
-use Rattle.routing.specs.Network.{Network, checked}
-use Rattle.routing.specs.declared.network.Checked.the-variants.{Accepted}
+use Rattle.network.specs.Network.{Network, checked}
+use Rattle.network.specs.declared.check.Checked.the-variants.{Accepted}
 use Rattle.journal.specs.Row.{Fix, Row, Given, size, cellOf, scoreOf, beforeOf, fixGiven, rowGiven}
 use Rattle.journal.specs.Record.{readRow}
 use Rattle.journal.specs.declared.record.Candidate.{Candidate}

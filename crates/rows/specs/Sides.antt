@@ -8,8 +8,8 @@ use lib.ListN.{length, getD, set, replicate}
 use lib.Ieee.{Float}
 use lib.Ieee.Scale.{finite}
 use Rattle.lists.specs.Loops.{any}
-use Rattle.routing.specs.Network.{Graph}
-use Rattle.routing.specs.Walks.{node}
+use Rattle.network.specs.Network.{Graph}
+use Rattle.network.specs.Walks.{node}
 use Rattle.routing.specs.Route.{route}
 use Rattle.journal.specs.Row.{Row, cellOf, scoreOf}
 use Rattle.transition.specs.Routes.{routesBy}

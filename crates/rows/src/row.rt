@@ -14,7 +14,7 @@ ghost use mathlib.Core.List.{[]};
 ghost use Prim.Native.Nat.{_<_, _≤_};
 ghost use lib.ListN.{length, getD};
 ghost use lib.Ieee.{nan};
-ghost use Rattle.routing.specs.Network.{networkOf};
+ghost use Rattle.network.specs.Network.{networkOf};
 ghost use Rattle.journal.specs.Row.{noParent, candidateGiven, fixGiven, givenOf};
 ghost use Rattle.journal.specs.Record.{readRow};
 ghost use Rattle.transition.specs.Step.{transition};

@@ -8,9 +8,9 @@ use borrow.Author.Tests.{ne-eqb, le-leb, lt-leb}
 use lib.Dec.{leb}
 use lib.ListN.{length, drop}
 use Rattle.lists.proofs.Loops.{clash}
-use Rattle.routing.specs.Network.{Network, count, orRefuse, checked}
-use Rattle.routing.specs.declared.network.Checked.{Checked}
-use Rattle.routing.specs.declared.network.Checked.the-variants.{Accepted, Refused}
+use Rattle.network.specs.Network.{Network, count, orRefuse, checked}
+use Rattle.network.specs.declared.check.Checked.{Checked}
+use Rattle.network.specs.declared.check.Checked.the-variants.{Accepted, Refused}
 use Rattle.journal.specs.Lists.{all}
 use Rattle.journal.specs.Record.{readRow}
 use Rattle.journal.specs.Journal.{readJournal}

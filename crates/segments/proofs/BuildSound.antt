@@ -14,9 +14,9 @@ use lib.Ieee.Bits.{is-true}
 use Rattle.binary64.specs.Values.{pzero}
 use Rattle.binary64.specs.Ranges.{inRange}
 use Rattle.binary64.proofs.Ranges.{clear-range-range}
-use Rattle.routing.specs.declared.network.Checked.{Checked}
-use Rattle.routing.specs.declared.network.Checked.the-variants.{Accepted, Refused}
-use Rattle.routing.specs.Network.{Network, count, checked}
+use Rattle.network.specs.declared.check.Checked.{Checked}
+use Rattle.network.specs.declared.check.Checked.the-variants.{Accepted, Refused}
+use Rattle.network.specs.Network.{Network, count, checked}
 use Rattle.journal.specs.Lists.{all}
 use Rattle.journal.specs.Row.{Row}
 use Rattle.journal.specs.Ranges.{intrinsicOk}

@@ -8,9 +8,9 @@ use lib.IntN.{pos}
 use lib.ListN.{length, drop}
 use lib.Ieee.{fin}
 use Rattle.binary64.specs.Values.{pzero}
-use Rattle.routing.specs.declared.network.Checked.{Checked}
-use Rattle.routing.specs.declared.network.Checked.the-variants.{Accepted, Refused}
-use Rattle.routing.specs.Network.{Network, count, checked}
+use Rattle.network.specs.declared.check.Checked.{Checked}
+use Rattle.network.specs.declared.check.Checked.the-variants.{Accepted, Refused}
+use Rattle.network.specs.Network.{Network, count, checked}
 use Rattle.journal.specs.Lists.{all}
 use Rattle.journal.specs.Row.{Row}
 use Rattle.journal.specs.Journal.{readJournal}

@@ -6,7 +6,7 @@ use crate::collapse::remove_oscillations;
 use crate::segment::Segment;
 ghost use mathlib.Core.Path.{_≡_};
 ghost use Prim.Native.Nat.{min};
-ghost use Rattle.routing.specs.Network.{networkOf};
+ghost use Rattle.network.specs.Network.{networkOf};
 ghost use Rattle.segments.specs.Array.{Lendable, arrayOf, arrayed, builtOf, builtArray};
 
 // The segments that an array holds.

@@ -11,8 +11,8 @@ use lib.ListN.{length, getD, drop, length-drop}
 use lib.Seq.{drop-cons, drop-drop}
 use lib.Ieee.Fits.{and-l, and-r}
 use Rattle.binary64.proofs.Order.{taken}
-use Rattle.routing.specs.Network.{Network, count, checked}
-use Rattle.routing.specs.declared.network.Checked.the-variants.{Accepted, Refused as NetworkRefused}
+use Rattle.network.specs.Network.{Network, count, checked}
+use Rattle.network.specs.declared.check.Checked.the-variants.{Accepted, Refused as NetworkRefused}
 use Rattle.journal.specs.Lists.{all}
 use Rattle.journal.specs.Row.{Row, Cell, noCell, size, cellOf, scores, predecessor, sizeOf, beforeOf}
 use Rattle.journal.specs.Record.{recordLength, readRow}

@@ -9,7 +9,7 @@ use lib.ListN.{length, getD, set, take, length-map, List·getD-map}
 use lib.Seq.{take-suc, take-suc-set, take-all}
 use lib.Ieee.{Float}
 use lib.Ieee.Scale.{finite}
-use Rattle.routing.specs.Network.{Graph, Network}
+use Rattle.network.specs.Network.{Graph, Network}
 use Rattle.journal.specs.Row.{Cell, Row, noCell, size, cellOf, scoreOf}
 use Rattle.journal.specs.Record.{recordLength, readRow}
 use Rattle.transition.specs.Step.{transition}

@@ -5,7 +5,7 @@ use mathlib.Core.Option.{Option, none, some}
 use lib.Dec.{leb, ltb}
 use lib.ListN.{length, drop}
 use lib.Ieee.{Float}
-use Rattle.routing.specs.Network.{Network, count}
+use Rattle.network.specs.Network.{Network, count}
 use Rattle.journal.specs.Lists.{all}
 use Rattle.journal.specs.Row.{Row}
 use Rattle.journal.specs.Journal.{readJournal}

@@ -11,12 +11,12 @@ use Rattle.binary64.specs.Values.{pzero, whole}
 use Rattle.binary64.specs.Ranges.{inRange, inClearRange}
 use Rattle.binary64.proofs.Order.{taken}
 use Rattle.binary64.proofs.Ranges.{range-low, range-high, clear-range-range, clear-range-clear}
-use Rattle.routing.specs.Network.{Network, count, checked}
+use Rattle.network.specs.Network.{Network, count, checked}
 use Rattle.routing.specs.Route.{route}
-use Rattle.routing.specs.declared.network.Checked.the-variants.{Accepted}
+use Rattle.network.specs.declared.check.Checked.the-variants.{Accepted}
 use Rattle.routing.specs.declared.route.Route.{Route}
 use Rattle.routing.specs.declared.route.Route.the-variants.{Cost, Unreachable}
-use Rattle.routing.proofs.Accepted.{accepted-lengths}
+use Rattle.network.proofs.Accepted.{accepted-lengths}
 use Rattle.routing.proofs.WalkCosts.{walk-cost}
 use Rattle.routing.proofs.Promise.{accepted-promise}
 use Rattle.journal.specs.declared.record.Candidate.{Candidate}

@@ -9,7 +9,7 @@ use lib.Ieee.{Float, binary64, neg, rem, lt, eq, fits, ofBits}
 use borrow.Author.Tests.{eq-eqb, ne-eqb}
 use Rattle.binary64.specs.Values.{pzero}
 use Rattle.binary64.specs.Ranges.{inRange}
-use Rattle.routing.specs.Network.{Network}
+use Rattle.network.specs.Network.{Network}
 use Rattle.routing.specs.Route.{route}
 use Rattle.routing.specs.declared.route.Route.{Route}
 use Rattle.routing.specs.declared.route.Route.the-variants.{Cost, Unreachable}

@@ -11,8 +11,8 @@ use lib.Seq.{length-take-le, getD-take, getD-append-add}
 use lib.Ieee.{Float, nan, inf}
 use borrow.Author.Tests.{lt-ltb, le-ltb}
 use Rattle.routing.specs.declared.route.Route.the-variants.{Unreachable}
-use Rattle.routing.specs.Network.{Graph, count}
-use Rattle.routing.specs.Walks.{node}
+use Rattle.network.specs.Network.{Graph, count}
+use Rattle.network.specs.Walks.{node}
 use Rattle.routing.specs.Search.{searched}
 use Rattle.routing.specs.Route.{knownSide, costOfEnd, route}
 use Rattle.routing.specs.Goals.{routeOf}

@@ -8,9 +8,9 @@ use lib.Ieee.{Float, nan}
 use Rattle.binary64.specs.Values.{pzero}
 use Rattle.binary64.proofs.Order.{lt→le}
 use Rattle.binary64.proofs.Ranges.{range-high, clear-range-range, clear-range-clear, open-range-low, open-range-high}
-use Rattle.routing.specs.Network.{Network, count, longest, fullTurn, lengthFits, headingFits, checked}
-use Rattle.routing.specs.declared.network.Checked.the-variants.{Accepted}
-use Rattle.routing.proofs.Accepted.{accepted-counts, accepted-lengths, accepted-headings}
+use Rattle.network.specs.Network.{Network, count, longest, fullTurn, lengthFits, headingFits, checked}
+use Rattle.network.specs.declared.check.Checked.the-variants.{Accepted}
+use Rattle.network.proofs.Accepted.{accepted-counts, accepted-lengths, accepted-headings}
 use Rattle.transition.specs.Place.{Elements, placeAt, leaving, entering}
 use Rattle.transition.proofs.Parts.{UpTo, Within}
 use Rattle.transition.proofs.Range.{PlaceOk}

@@ -5,7 +5,7 @@ use mathlib.Core.Bool.{false}
 use mathlib.Core.List.{List}
 use lib.ListN.{length, getD, replicate}
 use lib.Ieee.{Float, nan, inf}
-use Rattle.routing.specs.Network.{Graph, count}
+use Rattle.network.specs.Network.{Graph, count}
 use Rattle.routing.specs.Search.{searched}
 use Rattle.routing.specs.Route.{costOfEnd}
 use Rattle.routing.specs.Goals.{routeOf}

@@ -6,7 +6,7 @@ use mathlib.Core.Path.{_≡_}
 use lib.Dec.{eqb}
 use lib.ListN.{length, getD}
 use lib.Ieee.{Float, nan}
-use Rattle.routing.specs.Network.{Network}
+use Rattle.network.specs.Network.{Network}
 use Rattle.transition.specs.declared.place.Place.{Place}
 
 -- what is asked of the lists of a network's elements: at most 1,024 of them, four headings and a flag each

@@ -5,7 +5,7 @@ use mathlib.Core.List.{List}
 use lib.Dec.{eqb}
 use lib.Ieee.{Float}
 use Rattle.binary64.specs.Values.{pzero}
-use Rattle.routing.specs.Network.{Network}
+use Rattle.network.specs.Network.{Network}
 use Rattle.routing.specs.Route.{route}
 use Rattle.journal.specs.declared.record.Candidate.{Candidate}
 use Rattle.transition.specs.declared.place.Place.{Place}

@@ -8,8 +8,8 @@ use routing::route::Route;
 ghost use mathlib.Core.Path.{_≡_};
 ghost use Prim.Native.Nat.{_+_, _*_, _<_, _≤_};
 ghost use lib.ListN.{length};
-ghost use Rattle.routing.specs.Network.{graphOf, relationsOf};
-ghost use Rattle.routing.specs.Sound.{Sound};
+ghost use Rattle.network.specs.Network.{graphOf, relationsOf};
+ghost use Rattle.network.specs.Sound.{Sound};
 ghost use Rattle.routing.specs.Index.{Indexed};
 ghost use Rattle.transition.specs.Costs.{noRoutes, entryAt, routesAt, RowFilled, RoutesHeld};
 

@@ -2,7 +2,7 @@
 use Rattle.bridges.proofs.Between.{insert-accepted}
 use Rattle.bridges.proofs.Joined.{adjacent-none}
 use Rattle.bridges.specs.Found.{bridgesOf}
-use Rattle.routing.proofs.Accepted.{accepted-sound}
+use Rattle.network.proofs.Accepted.{accepted-sound}
 use borrow.Author.Needs.{needs}
 use mathlib.Core.Path.{ap, sym, _∙_}
 use Rattle.bridges.proofs.insert.insert_bridges.Statement.{statement}

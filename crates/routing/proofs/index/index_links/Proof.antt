@@ -3,7 +3,7 @@ use mathlib.Core.Path.{refl, _∙_, _≡_}
 use native.Mathlib.Omega.{arith}
 use Prim.Native.Nat.{_*_, _≤_}
 use lib.ListN.{length}
-use Rattle.routing.specs.Network.{relationsOf}
+use Rattle.network.specs.Network.{relationsOf}
 use Rattle.routing.specs.Index.{Indexed}
 use Rattle.routing.proofs.index.index_links.Statement.{statement}
 use Rattle.routing.proofs.index.index_links.Tie as tie

@@ -1,7 +1,7 @@
 -- `routing::route::route_cost` meets its contract. Assumes nothing.
 use borrow.Author.Needs.{needs}
 use mathlib.Core.Path.{sym, ap₂, _∙_}
-use Rattle.routing.specs.Walks.{node}
+use Rattle.network.specs.Walks.{node}
 use Rattle.routing.proofs.Routes.{known-node, route-between, route-unknown-start, route-unknown-goal}
 use Rattle.routing.proofs.route.route_cost.Statement.{statement}
 use Rattle.routing.proofs.route.route_cost.Tie as tie

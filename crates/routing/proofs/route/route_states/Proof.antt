@@ -1,7 +1,7 @@
 -- `routing::route::route_states` meets its contract. Assumes nothing.
 use borrow.Author.Needs.{needs}
 use mathlib.Core.Path.{refl, sym, ap₂, _∙_}
-use Rattle.routing.specs.Walks.{node}
+use Rattle.network.specs.Walks.{node}
 use Rattle.routing.specs.Route.{stored}
 use Rattle.routing.proofs.Routes.{known-node, listing-between, stored-between, unlisted-start, unlisted-goal}
 use Rattle.routing.proofs.route.route_states.Statement.{statement}

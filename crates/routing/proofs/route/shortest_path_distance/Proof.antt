@@ -1,7 +1,7 @@
 -- `routing::route::shortest_path_distance` meets its contract. Assumes nothing.
 use borrow.Author.Needs.{needs}
 use mathlib.Core.Path.{sym, _∙_}
-use Rattle.routing.proofs.Accepted.{accepted-sound}
+use Rattle.network.proofs.Accepted.{accepted-sound}
 use Rattle.routing.proofs.Routes.{distance-accepted, distance-refused}
 use Rattle.routing.proofs.route.shortest_path_distance.Statement.{statement}
 use Rattle.routing.proofs.route.shortest_path_distance.Tie as tie

@@ -2,7 +2,7 @@
 use borrow.Author.Needs.{needs}
 use mathlib.Core.Path.{refl, sym, _∙_}
 use Rattle.routing.specs.Route.{stored}
-use Rattle.routing.proofs.Accepted.{accepted-sound}
+use Rattle.network.proofs.Accepted.{accepted-sound}
 use Rattle.routing.proofs.Routes.{listing-accepted, listing-refused}
 use Rattle.routing.proofs.route.shortest_path_route.Statement.{statement}
 use Rattle.routing.proofs.route.shortest_path_route.Tie as tie

@@ -4,7 +4,7 @@ use Prim.Native.Nat.{ℕ, _*_, _≤_, _<_}
 use native.Mathlib.Omega.{arith}
 use lib.ListN.{length}
 use Rattle.routing.specs.declared.search.Pick.the-variants.{At}
-use Rattle.routing.specs.Network.{Graph, graphOf}
+use Rattle.network.specs.Network.{Graph, graphOf}
 use Rattle.routing.specs.Search.{Search, searchOf, next, left, run}
 use Rattle.routing.specs.Blocks.{Blocks}
 use borrow.Author.Needs.{needs}

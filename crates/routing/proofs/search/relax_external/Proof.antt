@@ -4,7 +4,7 @@ use native.Mathlib.Omega.{arith}
 use Prim.Native.Nat.{_*_, _-_}
 use lib.ListN.{length}
 use lib.Ieee.{ofBits}
-use Rattle.routing.specs.Network.{relationsOf}
+use Rattle.network.specs.Network.{relationsOf}
 use Rattle.routing.specs.Search.{tables}
 use Rattle.routing.specs.Blocks.{Blocks}
 use borrow.Author.Needs.{needs}

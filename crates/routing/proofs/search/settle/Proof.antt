@@ -4,7 +4,7 @@ use native.Mathlib.Omega.{arith}
 use Rattle.routing.proofs.search.settle.Statement.{statement}
 use Rattle.routing.proofs.search.settle.Tie as tie
 use Rattle.routing.proofs.Turns.{settled-odd, settled-even, room-same}
-use Rattle.routing.proofs.Links.{opposite-lands}
+use Rattle.network.proofs.Links.{opposite-lands}
 use Rattle.routing.proofs.Leaders.{blocks-marked}
 
 mark-state-requires : tie.Need-mark-state-requires

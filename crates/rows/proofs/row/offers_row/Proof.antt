@@ -4,8 +4,8 @@ use Prim.Native.Nat.{_*_, _≤_, _-_}
 use native.Mathlib.Omega.{arith}
 use lib.ListN.{length}
 use borrow.Author.Needs.{needs}
-use Rattle.routing.specs.Network.{networkOf}
-use Rattle.routing.proofs.Accepted.{accepted-sound}
+use Rattle.network.specs.Network.{networkOf}
+use Rattle.network.proofs.Accepted.{accepted-sound}
 use Rattle.journal.specs.Row.{fixGiven, givenOf}
 use Rattle.journal.specs.Record.{readRow}
 use Rattle.transition.specs.Costs.{routesAt}

@@ -1,7 +1,7 @@
 -- `rows::sides::put_nodes` meets its contract. Assumes nothing.
 use borrow.Author.Needs.{needs}
 use native.Mathlib.Nat.{add-zero}
-use Rattle.routing.specs.Walks.{node}
+use Rattle.network.specs.Walks.{node}
 use Rattle.rows.specs.Sides.{putNodes}
 use Rattle.rows.proofs.sides.put_nodes.Statement.{statement}
 use Rattle.rows.proofs.sides.put_nodes.Tie as tie

@@ -2,8 +2,8 @@
 use mathlib.Core.Path.{_∙_}
 use native.Mathlib.Omega.{arith}
 use borrow.Author.Needs.{needs}
-use Rattle.routing.specs.Network.{networkOf}
-use Rattle.routing.proofs.Accepted.{accepted-sound}
+use Rattle.network.specs.Network.{networkOf}
+use Rattle.network.proofs.Accepted.{accepted-sound}
 use Rattle.transition.proofs.Places.{accepted-elements}
 use Rattle.transition.proofs.Held.{routes-many}
 use Rattle.steps.proofs.Routes.{table-holds}

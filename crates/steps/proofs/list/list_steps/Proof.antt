@@ -4,7 +4,7 @@ use mathlib.Core.Path.{sym, _∙_}
 use borrow.Author.Tests.{not-true, not-false}
 use borrow.Author.Needs.{needs}
 use Rattle.steps.specs.Listing.{buffersOf, roomOf}
-use Rattle.routing.proofs.Accepted.{accepted-counts}
+use Rattle.network.proofs.Accepted.{accepted-counts}
 use Rattle.steps.proofs.Listing.{found-refused, found-alone, found-linked, network-refused, settings-refused, checks-passed}
 use Rattle.steps.proofs.Between.{refused-is, nothing-listed, parts-stand, between-listed}
 use Rattle.steps.proofs.list.list_steps.Statement.{statement}

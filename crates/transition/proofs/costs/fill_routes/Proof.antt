@@ -4,7 +4,7 @@ use Prim.Native.Nat.{_-_, _≤_}
 use native.Mathlib.Omega.{arith}
 use lib.ListN.{length}
 use borrow.Author.Needs.{needs}
-use Rattle.routing.specs.Network.{graphOf}
+use Rattle.network.specs.Network.{graphOf}
 use Rattle.transition.specs.Costs.{RoutesHeld}
 use Rattle.transition.proofs.costs.fill_routes.Statement.{statement}
 use Rattle.transition.proofs.costs.fill_routes.Tie as tie
