@@ -44,7 +44,7 @@ fn earlier_of(a: Leader, b: Leader) -> Leader
     if b.key < a.key { b } else { a }
 }
 
-// The state i; a settled one cannot be picked. Its cost is read in any case, so that nothing has to be guessed.
+// The state i; a settled one cannot be picked. Its cost is read before the test, so that no branch has to be made of it.
 fn state_leader(costs: &[f64], marks: &[bool], i: usize) -> Leader
     requires { ⌜ (i < length (now costs)) × (i < length (now marks)) ⌝ }
     ensures { λ r. ⌜ r ≡ stateLeader (now (costs .entry)) (now (marks .entry)) i ⌝ }

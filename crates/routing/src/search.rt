@@ -42,8 +42,8 @@ pub fn no_marks() -> [bool; 4096]
     [false; 4096]
 }
 
-// The unsettled state of least cost among the first `states`, the lowest number among equals: the earliest of the blocks' leaders. No state from
-// `states` on is reached, so that the tables need not be looked at.
+// The unsettled state of least cost among the first `states`, the lowest number among equals: the earliest of the blocks' leaders. The tables are
+// there for the contract; no state from `states` on is reached.
 pub fn next_state(
     costs: &[f64],
     marks: &[bool],
