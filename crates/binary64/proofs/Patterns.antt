@@ -1,15 +1,15 @@
 -- Bit patterns in order: of two with the sign bit clear that are finite, the greater pattern is the greater value. With the sign bit set a pattern is the
 -- negated value. Assumes nothing.
-use mathlib.Core.Path.{_≡_, refl, sym, ap, _∙_, subst}
+use mathlib.Core.Path.{_≡_, sym, ap, _∙_, subst}
 use mathlib.Core.Bool.{Bool, true, false, not, cond}
-use mathlib.Core.Logic.{_⊎_, inl, inr, ⊎-elim}
+use mathlib.Core.Logic.{_⊎_, ⊎-elim}
 use Prim.Native.Nat.{ℕ, zero, suc, _+_, _-_, _*_, _/_, _%_, _^_, _<_, _≤_}
-use native.Mathlib.Nat.{mul-comm, mul-suc, mul-add, add-mul, pow-suc, mul-assoc, mul-le-mul-left, mul-le-mul-right, mul-lt-mul-of-pos-right, mod-lt, mod-eq-of-lt, add-mod-left, mul-add-mod-self-left, zero-add, eq-or-lt-of-le, suc-mul, lt-of-mul-lt-mul-right, div-add-mod', div-lt-iff-lt-mul}
+use native.Mathlib.Nat.{mul-comm, mul-suc, add-mul, pow-suc, mul-assoc, mul-le-mul-left, mul-le-mul-right, mul-lt-mul-of-pos-right, mod-lt, mod-eq-of-lt, add-mod-left, mul-add-mod-self-left, zero-add, eq-or-lt-of-le, suc-mul, lt-of-mul-lt-mul-right, div-add-mod', div-lt-iff-lt-mul}
 use native.Mathlib.Omega.{arith}
 use lib.Dec.{T, leb, le→leb}
 use borrow.Author.Tests.{ne-eqb, lt-leb}
 use lib.Pow.{pow-pos, pow-mono}
-use lib.Ieee.{Float, nan, inf, fin, Format, prec, low, hid, ones, top, odd, ofFields, ofBits, neg, le}
+use lib.Ieee.{Float, nan, inf, fin, Format, prec, low, hid, ones, top, ofFields, ofBits, neg, le}
 use lib.Ieee.Bits.{is-true}
 use lib.Ieee.Exact.{HasValue, odd-sign}
 use lib.Ieee.Order.{le-of-values}

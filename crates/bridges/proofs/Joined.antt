@@ -1,17 +1,16 @@
 -- Between elements that an external edge joins there is no bridge: the cheapest of the routes between their sides costs 0. Assumes nothing.
-use mathlib.Core.Path.{_≡_, refl, sym, ap, subst, _∙_}
-use mathlib.Core.Bool.{Bool, true, false, not, cond, _&&_, _||_}
-use mathlib.Core.List.{List, [], _∷_}
-use mathlib.Core.Logic.{_⊎_, inl, inr, ⊎-elim}
-use Prim.Native.Nat.{ℕ, _+_, _*_, _/_, _<_, _≤_}
+use mathlib.Core.Path.{_≡_, refl, ap}
+use mathlib.Core.Bool.{Bool, true, false, not, cond, _&&_}
+use mathlib.Core.List.{[], _∷_}
+use mathlib.Core.Logic.{_⊎_, ⊎-elim}
+use Prim.Native.Nat.{ℕ, _+_, _*_, _<_, _≤_}
 use native.Mathlib.Nat.{eq-or-lt-of-le}
 use native.Mathlib.Omega.{arith}
 use lib.Dec.{T, ltb, eqb}
-use lib.ListN.{length, getD}
+use lib.ListN.{getD}
 use lib.Ieee.Bits.{is-true}
-use lib.Ieee.{Float, binary64, add, le, lt, isNan, fits}
+use lib.Ieee.{Float, binary64, add, lt, isNan, fits}
 use borrow.Author.Tests.{ltb-true, eqb-true, lt-ltb}
-use Rattle.lists.specs.Loops.{any}
 use Rattle.lists.proofs.Loops.{two, clash, and-both, both-and, or-either, any-some}
 use Rattle.binary64.specs.Values.{pzero}
 use Rattle.binary64.proofs.Costs.{cost-pzero}
@@ -20,12 +19,11 @@ use Rattle.network.specs.declared.check.Checked.the-variants.{Accepted}
 use Rattle.routing.specs.declared.route.Route.{Route}
 use Rattle.routing.specs.declared.route.Route.the-variants.{Cost, Unreachable}
 use Rattle.network.specs.Network.{Relations, Network, Graph, count, relationCount, checked}
-use Rattle.network.specs.Walks.{node, relationAt, usable, navigable, ahead, behind, Leads, External, forward, backward, Edge, external, Walk, start, onward}
+use Rattle.network.specs.Walks.{node, relationAt, usable, navigable, ahead, behind, External, forward, backward, external, start, onward}
 use Rattle.routing.specs.Route.{knownSide, route}
 use Rattle.routing.specs.Promise.{Joined, farthest}
 use Rattle.network.proofs.Accepted.{accepted-sound}
 use Rattle.routing.proofs.Promise.{accepted-promise}
-use Rattle.transition.specs.declared.routes.Routes.{Routes}
 use Rattle.transition.specs.Routes.{routesBy}
 use Rattle.transition.specs.Pair.{billionth}
 use Rattle.bridges.specs.declared.sides.Cheapest.{Cheapest}

@@ -2,7 +2,6 @@
 use Rattle.bridges.specs.Adjacent.{leadsAt}
 use borrow.Author.Needs.{needs}
 use mathlib.Core.Path.{sym, _∙_}
-use native.Mathlib.Omega.{arith}
 use Rattle.bridges.proofs.adjacent.leads_at.Statement.{statement}
 use Rattle.bridges.proofs.adjacent.leads_at.Tie as tie
 
