@@ -1,20 +1,19 @@
 -- Whether an external edge leads from some nodes to others, by the graph's links and by the relations, is the same; and it is what consistent triples ask.
 -- Assumes nothing.
-use mathlib.Core.Path.{_≡_, refl, sym, _∙_}
+use mathlib.Core.Path.{_≡_, refl, sym}
 use mathlib.Core.Bool.{Bool, true, false, _||_}
 use mathlib.Core.List.{List}
-use mathlib.Core.Logic.{_⊎_, inl, inr, ⊎-elim}
-use Prim.Native.Nat.{ℕ, suc, _+_, _<_, _≤_}
+use mathlib.Core.Logic.{inl, inr, ⊎-elim}
+use Prim.Native.Nat.{ℕ, suc, _<_, _≤_}
 use native.Mathlib.Nat.{eq-or-lt-of-le}
 use native.Mathlib.Omega.{arith}
 use borrow.Author.Tests.{leb-true, le-leb}
 use Rattle.lists.specs.Loops.{any}
-use Rattle.lists.proofs.Loops.{clash, two, and-both, both-and, or-either, or-right, any-some, any-stop}
-use Rattle.network.specs.declared.link.Relation.{Relation}
+use Rattle.lists.proofs.Loops.{and-both, both-and, or-either, or-right, any-some, any-stop}
 use Rattle.network.specs.declared.link.Link.{Link}
 use Rattle.network.specs.declared.joined.Nodes.{Nodes}
 use Rattle.network.specs.Network.{Relations, relationCount}
-use Rattle.network.specs.Graph.{node, relationAt, ahead, behind, linksOf}
+use Rattle.network.specs.Graph.{node, relationAt, ahead, linksOf}
 use Rattle.network.specs.Triple.{connected, entered, departed}
 use Rattle.network.specs.Nodes.{sideNodes, elementNodes, within, joined, linkLeads, relationLeads}
 use Rattle.network.proofs.Links.{Leads, external-leads, leads-external}
@@ -31,6 +30,10 @@ or-left a b e = rw e
 
 or-last : (a b : Bool) → b ≡ true → a || b ≡ true
 or-last a b e = rw e (or-right a)
+
+either-side : (test : ℕ → Bool) (side : ℕ) → side ≤ 1 → test side ≡ true → test 0 || test 1 ≡ true
+either-side test side h e =
+    ⊎-elim (λ (i : side ≡ 1). or-last (test 0) (test 1) (rw i at e)) (λ l. let i : side ≡ 0 = omega arith in or-left (test 0) (test 1) (rw i at e)) (eq-or-lt-of-le h)
 
 -- ---- a range's nodes
 
@@ -52,11 +55,11 @@ element-within : (element side : ℕ) → side ≤ 1 → within (elementNodes el
 unfolding node
 element-within element side h = low-within _ _ (omega arith) (omega arith)
 
-within-element : (element v : ℕ) → within (elementNodes element) v ≡ true → (v ≡ node element 0) ⊎ (v ≡ node element 1)
+pub within-element : (element v : ℕ) → within (elementNodes element) v ≡ true → (side : ℕ) × (side ≤ 1) × (v ≡ node element side)
 unfolding node
 within-element element v e =
     let p = within-low _ _ e in
-    ⊎-elim (λ (i : node element 0 ≡ v). inl (sym i)) (λ (l : node element 0 < v). inr (omega (arith, p))) (eq-or-lt-of-le (p .0))
+    ⊎-elim (λ (i : node element 0 ≡ v). (0, omega arith, sym i)) (λ (l : node element 0 < v). (1, omega arith, omega (arith, p))) (eq-or-lt-of-le (p .0))
 
 -- ---- nodes that are joined
 
@@ -127,8 +130,8 @@ module _ (links : ℕ → List ℕ) (a b side : ℕ) where
   edged-entered : Edged links (elementNodes a) (sideNodes b side) → entered links a (node b side) ≡ true
   unfolding entered
   edged-entered E =
-      let at : connected links (E .source) (node b side) ≡ true = rw (within-side b side (E .target) (E .ends)) at (E .edge) in
-      ⊎-elim (λ i. or-left _ _ (rw i at at)) (λ i. or-last (connected links (node a 0) (node b side)) _ (rw i at at)) (within-element a (E .source) (E .starts))
+      let s = within-element a (E .source) (E .starts) in
+      either-side (λ i. connected links (node a i) (node b side)) (s .0) (s .1) (rw (s .2, within-side b side (E .target) (E .ends)) at (E .edge))
 
   entered-edged : (s : ℕ) → s ≤ 1 → connected links (node a s) (node b side) ≡ true → Edged links (elementNodes a) (sideNodes b side)
   entered-edged s h e = record { source = node a s; target = node b side; starts = element-within a s h; ends = side-within b side; edge = e }
@@ -142,8 +145,8 @@ module _ (links : ℕ → List ℕ) (a b side : ℕ) where
   edged-departed : Edged links (sideNodes b side) (elementNodes a) → departed links (node b side) a ≡ true
   unfolding departed
   edged-departed E =
-      let at : connected links (node b side) (E .target) ≡ true = rw (within-side b side (E .source) (E .starts)) at (E .edge) in
-      ⊎-elim (λ i. or-left _ _ (rw i at at)) (λ i. or-last (connected links (node b side) (node a 0)) _ (rw i at at)) (within-element a (E .target) (E .ends))
+      let s = within-element a (E .target) (E .ends) in
+      either-side (λ i. connected links (node b side) (node a i)) (s .0) (s .1) (rw (s .2, within-side b side (E .source) (E .starts)) at (E .edge))
 
   departed-edged : (s : ℕ) → s ≤ 1 → connected links (node b side) (node a s) ≡ true → Edged links (sideNodes b side) (elementNodes a)
   departed-edged s h e = record { source = node b side; target = node a s; starts = side-within b side; ends = element-within a s h; edge = e }
