@@ -60,6 +60,14 @@ every-turn k test h e = rw (add-one, h, e)
 pub every-done : (k n : ℕ) (test : ℕ → Bool) → every k test ≡ true → k ≡ n → true ≡ every n test
 every-done k n test h e = rw (← e, h)
 
+-- an answer that is kept from turn to turn, with no end before the last one
+pub every-kept : (k : ℕ) (test : ℕ → Bool) {was is : Bool} → was ≡ every k test → is ≡ was && test k → is ≡ every (k + 1) test
+unfolding every
+every-kept k test h e = rw (add-one, ← h) e
+
+pub every-all-kept : (k n : ℕ) (test : ℕ → Bool) {is : Bool} → is ≡ every k test → k ≡ n → is ≡ every n test
+every-all-kept k n test h e = rw (← e) h
+
 pub every-at : (n : ℕ) (test : ℕ → Bool) → every n test ≡ true → (k : ℕ) → k < n → test k ≡ true
 unfolding every
 every-at zero test h k l = absurd (not-suc-le-zero l)
