@@ -3,6 +3,7 @@ pub mod Lists
 pub mod Rules
 pub mod Product
 pub mod Stores
+pub mod Gathered
 pub mod Reading
 pub mod WellFormed
 pub mod HighHalf

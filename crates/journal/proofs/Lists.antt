@@ -1,13 +1,15 @@
 -- Laws of lists taken apart from the front, and of Bool tests. Assumes nothing.
 use Prim.Native.Nat.{ℕ, zero, suc, _+_, _*_, _<_}
 use native.Mathlib.Omega.{arith}
-use native.Mathlib.Nat.{mul-suc, mul-zero, add-comm}
+use native.Mathlib.Nat.{mul-suc, mul-zero, add-comm, eq-or-lt-of-le}
 use mathlib.Core.Path.{_≡_, refl, sym, ap, _∙_}
 use mathlib.Core.Bool.{Bool, true, false, cond}
 use mathlib.Core.List.{List, [], _∷_, _++_, map, append-assoc}
 use mathlib.Core.Option.{none, some}
+use mathlib.Core.Logic.{⊎-elim}
 use lib.Dec.{T, eqb, eqb→eq, eqb-refl}
-use lib.ListN.{length, getD, drop, length-append}
+use lib.ListN.{length, getD, set, drop, length-append}
+use lib.Seq.{getD-set-same, getD-set-other}
 use lib.Ieee.Fits.{and-i, and-l, and-r}
 use Rattle.journal.specs.Lists.{all, flat, number, starts}
 use Rattle.journal.specs.WellFormed.{Each}
@@ -111,6 +113,19 @@ number-other [] [] d e = refl
 number-other [] (x ∷ xs) d e = absurd (omega arith)
 number-other (a ∷ l) [] d e = absurd (omega arith)
 number-other (a ∷ l) (x ∷ xs) d e = rw (number-shift (λ i a. getD (x ∷ xs) i d) 0 l, number-other l xs d (omega arith))
+
+-- ---- what is read and stored
+
+-- inside a list the default is not read
+pub default-inside : {A : Type 0} (l : List A) (i : ℕ) (d e : A) → i < length l → getD l i d ≡ getD l i e
+default-inside [] i d e h = absurd (omega arith)
+default-inside (a ∷ l) zero d e h = refl
+default-inside (a ∷ l) (suc i) d e h = default-inside l i d e (omega arith)
+
+-- each entry below the stored one, and that one
+pub set-below : {A : Type 0} (l : List A) (k : ℕ) (a d : A) (f : ℕ → A) → k < length l → ((i : ℕ) → i < k → getD l i d ≡ f i) → a ≡ f k → (i : ℕ) → i < k + 1 → getD (set l k a) i d ≡ f i
+set-below l k a d f h e q i m =
+    ⊎-elim (λ (same : i ≡ k). rw same (getD-set-same l k a d h ∙ q)) (λ (less : i < k). getD-set-other l k i a d (omega arith) ∙ e i less) (eq-or-lt-of-le (omega arith))
 
 -- ---- words of entries
 

@@ -3,14 +3,15 @@ use Prim.Native.Nat.{ℕ, suc, _+_, _-_, _*_, _≤_, _<_}
 use native.Mathlib.Nat.{add-zero, add-suc, suc-add, le-refl}
 use native.Mathlib.Numerals.{add-one}
 use native.Mathlib.Omega.{arith}
-use mathlib.Core.Path.{_≡_, refl, sym, ap, _∙_}
+use mathlib.Core.Path.{_≡_, refl, sym, ap, _∙_, subst}
 use mathlib.Core.List.{List, [], _∷_, _++_, append-nil}
 use lib.ListN.{length, getD, take-append-drop, take, drop, set, length-drop, drop-of-length-le}
 use lib.Seq.{sets, take-all, take-suc, length-take-le, take-set-le, drop-set-add}
 use lib.Ieee.{Float, nan}
 use Rattle.journal.specs.Lists.{flat}
-use Rattle.journal.specs.Row.{Cell, Row, Given, noCell, candidateGiven, cellsGiven, rowGiven, givenOf}
-use Rattle.journal.specs.Record.{headWord, lengthWord, usedWord, cellWords, distancesWords, recordLength, recordOf, CellsFit}
+use Rattle.journal.specs.Row.{Cell, Row, noCandidate, noCell, size, cellsOf}
+use Rattle.journal.specs.declared.record.Candidate.{Candidate}
+use Rattle.journal.specs.Record.{headWord, lengthWord, usedWord, cellWords, distancesWords, recordLength, recordOf, CellNarrow}
 use Rattle.journal.proofs.Lists.{length-flat, flat-append, length-number, getD-number}
 use Rattle.journal.specs.Journal.{put}
 use Rattle.journal.proofs.Reading.{length-cells, length-floats, length-record}
@@ -56,67 +57,55 @@ pub four-parts : (l : List ℕ) (h w n m : ℕ) (xs ys : List ℕ) → length xs
     → set (sets (sets (set l 0 h) 1 xs) (1 + n) ys) (1 + n + m) w ≡ sets l 0 (h ∷ (xs ++ (ys ++ (w ∷ []))))
 four-parts l h w n m xs ys e f = rw (← e, ← f, sets-append (set l 0 h) 1 xs (ys ++ (w ∷ [])), sets-append _ _ ys (w ∷ []))
 
--- the cells of a fix that was handed over
-pub cell-given : (g : Given) (parents : List ℕ) (scores : List Float) (k : ℕ) → k < length (g .elements)
-    → getD (cellsGiven g parents scores) k noCell ≡ record { candidate = candidateGiven g k (getD (g .elements) k 0); parent = getD parents k 0; score = getD scores k nan }
-unfolding cellsGiven
-cell-given g parents scores k h =
-    getD-number {B = Cell} (λ i e. record { candidate = candidateGiven g i e; parent = getD parents i 0; score = getD scores i nan }) (g .elements) k noCell 0 h
+-- the cells of a row that is written
+module _ (cs : List Candidate) (parents : List ℕ) (scores : List Float) where
+  abbrev cell : ℕ → Candidate → Cell
+  cell k c = record { candidate = c; parent = getD parents k 0; score = getD scores k nan }
 
-pub length-given : (g : Given) (parents : List ℕ) (scores : List Float) → length (cellsGiven g parents scores) ≡ length (g .elements)
-unfolding cellsGiven
-length-given g parents scores = length-number {B = Cell} (λ i e. record { candidate = candidateGiven g i e; parent = getD parents i 0; score = getD scores i nan }) 0 (g .elements)
+  pub cell-at : (k : ℕ) → k < length cs → getD (cellsOf cs parents scores) k noCell ≡ cell k (getD cs k noCandidate)
+  unfolding cellsOf
+  cell-at k h = getD-number cell cs k noCell noCandidate h
 
--- a turn of the loop that stores them
-pub cells-turn : (l old new : List ℕ) (g : Given) (parents : List ℕ) (scores : List Float) (k : ℕ) → k < length (g .elements)
-    → old ≡ sets l 1 (flat cellWords (take k (cellsGiven g parents scores)))
-    → new ≡ sets old (1 + 7 * k) (cellWords (record { candidate = candidateGiven g k (getD (g .elements) k 0); parent = getD parents k 0; score = getD scores k nan }))
-    → new ≡ sets l 1 (flat cellWords (take (k + 1) (cellsGiven g parents scores)))
-cells-turn l old new g parents scores k h e f =
-    f
-    ∙ ap (λ (ws : List ℕ). sets ws (1 + 7 * k) (cellWords (record { candidate = candidateGiven g k (getD (g .elements) k 0); parent = getD parents k 0; score = getD scores k nan }))) e
-    ∙ ap (λ (c : Cell). sets (sets l 1 (flat cellWords (take k (cellsGiven g parents scores)))) (1 + 7 * k) (cellWords c)) (sym (cell-given g parents scores k h))
-    ∙ stored-turn l 1 7 k cellWords (cellsGiven g parents scores) noCell (λ c. refl) (rw (length-given g parents scores) h)
+  pub cells-many : length (cellsOf cs parents scores) ≡ length cs
+  unfolding cellsOf
+  cells-many = length-number cell 0 cs
 
--- what is asked of the cells has no part in the distances
-pub without-distances : (es : List ℕ) (is : List Float) (ns : List ℕ) (ls ds : List Float) (parents : List ℕ) (scores : List Float) → CellsFit (givenOf es is ns ls ds) parents scores → CellsFit (givenOf es is ns ls []) parents scores
-without-distances es is ns ls ds parents scores f = record {
-  few = f .few;
-  intrinsics = f .intrinsics;
-  near = f .near;
-  rawLogs = f .rawLogs;
-  parents-long = f .parents-long;
-  scores-long = f .scores-long;
-  element = f .element;
-  flag = f .flag;
-  parent = f .parent;
-}
+  pub cell-narrow : (k : ℕ) {c : Candidate} → k < length cs → c ≡ getD cs k noCandidate
+      → ((i : ℕ) → i < length (cellsOf cs parents scores) → CellNarrow (getD (cellsOf cs parents scores) i noCell)) → CellNarrow (cell k c)
+  cell-narrow k h own narrow = subst (λ (x : Cell). CellNarrow x) (cell-at k h ∙ sym (ap (cell k) own)) (narrow k (rw cells-many h))
+
+  -- a turn of the loop that stores them
+  pub cells-turn : (l old new : List ℕ) (k : ℕ) {c : Candidate} → k < length cs → c ≡ getD cs k noCandidate
+      → old ≡ sets l 1 (flat cellWords (take k (cellsOf cs parents scores)))
+      → new ≡ sets old (1 + 7 * k) (cellWords (cell k c))
+      → new ≡ sets l 1 (flat cellWords (take (k + 1) (cellsOf cs parents scores)))
+  cells-turn l old new k {c} h own e f =
+      f
+      ∙ ap (λ (ws : List ℕ). sets ws (1 + 7 * k) (cellWords (cell k c))) e
+      ∙ ap (λ (x : Cell). sets (sets l 1 (flat cellWords (take k (cellsOf cs parents scores)))) (1 + 7 * k) (cellWords x)) (ap (cell k) own ∙ sym (cell-at k h))
+      ∙ stored-turn l 1 7 k cellWords (cellsOf cs parents scores) noCell (λ c. refl) (rw cells-many h)
 
 -- head word, cells, distances and record length, stored in turn, are the record
-pub row-stored : (l cells whole : List ℕ) (g : Given) (parents : List ℕ) (scores : List Float) (p len : ℕ) → length (g .distances) ≡ length (g .elements) * p
-    → len ≡ recordLength (length (g .elements)) p
-    → cells ≡ sets (set l 0 (headWord (length (g .elements)) p)) 1 (flat cellWords (cellsGiven g parents scores))
-    → whole ≡ sets cells (1 + 7 * length (g .elements)) (distancesWords (g .distances))
-    → set whole (len - 1) (lengthWord len) ≡ sets l 0 (recordOf (rowGiven g parents scores p))
-unfolding recordOf
-row-stored l cells whole g parents scores p len d e f h =
-    let n = length (g .elements) in
-    let xs = flat cellWords (cellsGiven g parents scores) in
-    let ys = distancesWords (g .distances) in
-    let m = suc (2 * length (g .distances)) in
-    let at : len - 1 ≡ 1 + 7 * n + m = unfold recordLength in omega arith in
-    let long : length xs ≡ 7 * n = length-cells (cellsGiven g parents scores) ∙ ap (λ (k : ℕ). 7 * k) (length-given g parents scores) in
-    let stored : whole ≡ sets (sets (set l 0 (headWord n p)) 1 xs) (1 + 7 * n) ys = h ∙ ap (λ (ws : List ℕ). sets ws (1 + 7 * n) ys) f in
-    ap (λ (k : ℕ). set whole k (lengthWord len)) at
-    ∙ ap (λ (ws : List ℕ). set ws (1 + 7 * n + m) (lengthWord len)) stored
-    ∙ four-parts l (headWord n p) (lengthWord len) (7 * n) m xs ys long (ap suc (length-floats (g .distances)))
-    ∙ ap (λ (k : ℕ). sets l 0 (headWord n p ∷ (xs ++ (ys ++ (lengthWord k ∷ []))))) e
-    ∙ ap (λ (k : ℕ). sets l 0 (headWord k p ∷ (xs ++ (ys ++ (lengthWord (recordLength k p) ∷ []))))) (sym (length-given g parents scores))
+module _ (l cells whole : List ℕ) (r : Row) (number : length (r .distances) ≡ size r * r .before) where
+  stored : (len : ℕ) → len ≡ recordLength (size r) (r .before)
+      → cells ≡ sets (set l 0 (headWord (size r) (r .before))) 1 (flat cellWords (r .cells))
+      → whole ≡ sets cells (1 + 7 * size r) (distancesWords (r .distances))
+      → set whole (len - 1) (lengthWord len) ≡ sets l 0 (recordOf r)
+  unfolding recordOf
+  stored len e f h =
+      let at : len - 1 ≡ 1 + 7 * size r + suc (2 * length (r .distances)) = unfold recordLength in omega arith in
+      rw (at, h, f, e)
+      (four-parts l (headWord (size r) (r .before)) _ (7 * size r) (suc (2 * length (r .distances))) (flat cellWords (r .cells)) (distancesWords (r .distances)) (length-cells (r .cells)) (ap suc (length-floats (r .distances))))
 
-pub length-row : (g : Given) (parents : List ℕ) (scores : List Float) (p : ℕ) → length (g .distances) ≡ length (g .elements) * p → length (recordOf (rowGiven g parents scores p)) ≡ recordLength (length (g .elements)) p
-length-row g parents scores p h =
-    length-record (rowGiven g parents scores p) (h ∙ ap (λ (n : ℕ). n * p) (sym (length-given g parents scores)))
-    ∙ ap (λ (n : ℕ). recordLength n p) (length-given g parents scores)
+  -- the cells are counted elsewhere
+  pub row-stored : (n : ℕ) → size r ≡ n → (len : ℕ) → len ≡ recordLength n (r .before)
+      → cells ≡ sets (set l 0 (headWord n (r .before))) 1 (flat cellWords (r .cells))
+      → whole ≡ sets cells (1 + 7 * n) (distancesWords (r .distances))
+      → set whole (len - 1) (lengthWord len) ≡ sets l 0 (recordOf r)
+  row-stored n e = rw (← e) stored
+
+pub row-length : (r : Row) (n : ℕ) → length (r .distances) ≡ size r * r .before → size r ≡ n → length (recordOf r) ≡ recordLength n (r .before)
+row-length r n number e = rw (← e) (length-record r number)
 
 -- a record stored by a callee that was lent `&mut s[n..]`, and then word 0
 pub row-put : (s part : List ℕ) (n l : ℕ) (r : Row) → n ≤ length s → part ≡ sets (take (length s - n) (drop n s)) 0 (recordOf r) → l ≡ length (recordOf r)

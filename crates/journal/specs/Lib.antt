@@ -1,6 +1,7 @@
 -- What the contracts of `journal` and the laws of its `proofs/` speak of.
 pub mod Lists
 pub mod Row
+pub mod Fix
 pub mod Ranges
 pub mod Record
 pub mod Journal

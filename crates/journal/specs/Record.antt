@@ -5,7 +5,7 @@ use mathlib.Core.List.{List, [], _∷_, _++_}
 use lib.ListN.{length, getD, drop}
 use lib.Ieee.{Float, binary64, toBits, ofBits}
 use Rattle.journal.specs.Lists.{flat}
-use Rattle.journal.specs.Row.{Cell, Row, Given, size}
+use Rattle.journal.specs.Row.{Cell, Row, size, cellOf}
 use Rattle.journal.specs.Ranges.{candidateLimit, elementLimit}
 
 -- ---- words by kind, the top four bits
@@ -60,22 +60,17 @@ unfoldable pub recordOf : Row → List ℕ
 recordOf r =
     headWord (size r) (r .before) ∷ (flat cellWords (r .cells) ++ (distancesWords (r .distances) ++ (lengthWord (recordLength (size r) (r .before)) ∷ [])))
 
--- what is asked of cells and a row that are to be written: fields of one count, each within its bits
-pub record CellsFit (g : Given) (parents : List ℕ) (scores : List Float) : Type 0 where
-  pub few : length (g .elements) ≤ candidateLimit
-  pub intrinsics : length (g .intrinsics) ≡ length (g .elements)
-  pub near : length (g .near) ≡ length (g .elements)
-  pub rawLogs : length (g .rawLogs) ≡ length (g .elements)
-  pub parents-long : length (g .elements) ≤ length parents
-  pub scores-long : length (g .elements) ≤ length scores
-  pub element : (k : ℕ) → k < length (g .elements) → getD (g .elements) k 0 < elementLimit
-  pub flag : (k : ℕ) → k < length (g .elements) → getD (g .near) k 0 < 2
-  pub parent : (k : ℕ) → k < length (g .elements) → getD parents k 0 < 32
+-- what is asked of a row that is to be written: at most 16 candidates, as many predecessor candidates, and each field within its bits
+pub record CellNarrow (c : Cell) : Type 0 where
+  pub element : c .candidate .element < elementLimit
+  pub near : c .candidate .near < 2
+  pub parent : c .parent < 32
 
-pub record RowFit (g : Given) (parents : List ℕ) (scores : List Float) (p : ℕ) : Type 0 where
-  pub cells : CellsFit g parents scores
-  pub before : p ≤ candidateLimit
-  pub number : length (g .distances) ≡ length (g .elements) * p
+pub record RowNarrow (r : Row) : Type 0 where
+  pub few : size r ≤ candidateLimit
+  pub before : r .before ≤ candidateLimit
+  pub number : length (r .distances) ≡ size r * r .before
+  pub cell : (k : ℕ) → k < size r → CellNarrow (cellOf r k)
 
 -- ---- reading back
 

@@ -64,6 +64,14 @@ scoreOf r i = cellOf r i .score
 abbrev pub fixOf : Row → Fix
 fixOf r = record { candidates = map (λ (c : Cell). c .candidate) (r .cells); distances = r .distances }
 
+-- candidates with parents and scores, which a list each has
+unfoldable pub cellsOf : List Candidate → List ℕ → List Float → List Cell
+cellsOf cs parents scores = number (λ i c. record { candidate = c; parent = getD parents i 0; score = getD scores i nan }) 0 cs
+
+-- a fix with those and p predecessor candidates
+abbrev pub rowOf : Fix → List ℕ → List Float → ℕ → Row
+rowOf f parents scores p = record { cells = cellsOf (f .candidates) parents scores; before = p; distances = f .distances }
+
 -- ---- the predecessor
 
 -- one of its scores is finite
@@ -99,14 +107,6 @@ candidateGiven g i e = record { element = e; intrinsic = getD (g .intrinsics) i 
 
 unfoldable pub fixGiven : Given → Fix
 fixGiven g = record { candidates = number (candidateGiven g) 0 (g .elements); distances = g .distances }
-
--- its cells, with parents and scores in a list each
-unfoldable pub cellsGiven : Given → List ℕ → List Float → List Cell
-cellsGiven g parents scores = number (λ i e. record { candidate = candidateGiven g i e; parent = getD parents i 0; score = getD scores i nan }) 0 (g .elements)
-
--- its row, with p predecessor candidates
-abbrev pub rowGiven : Given → List ℕ → List Float → ℕ → Row
-rowGiven g parents scores p = record { cells = cellsGiven g parents scores; before = p; distances = g .distances }
 
 abbrev pub givenOf : List ℕ → List Float → List ℕ → List Float → List Float → Given
 givenOf elements intrinsics near rawLogs distances = record { elements = elements; intrinsics = intrinsics; near = near; rawLogs = rawLogs; distances = distances }

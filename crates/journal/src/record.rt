@@ -1,13 +1,16 @@
 // A row's record: its layout and its writer.
+use crate::fix::Candidates;
+use crate::fix::own_candidate;
 use crate::float::put_float;
 ghost use mathlib.Core.Path.{_≡_};
-ghost use Prim.Native.Nat.{_+_, _*_, _<_, _≤_};
-ghost use mathlib.Core.List.{[]};
-ghost use lib.ListN.{length, set};
+ghost use mathlib.Core.List.{List};
+ghost use Prim.Native.Nat.{ℕ, _+_, _*_, _<_, _≤_};
+ghost use lib.ListN.{length, getD};
 ghost use lib.Seq.{sets};
 ghost use Rattle.journal.specs.Lists.{flat};
-ghost use Rattle.journal.specs.Row.{cellsGiven, rowGiven, givenOf};
-ghost use Rattle.journal.specs.Record.{cellWords, distancesWords, recordLength, recordOf, CellsFit, RowFit};
+ghost use Rattle.journal.specs.Row.{Cell, Row, noCell, cellsOf, rowOf};
+ghost use Rattle.journal.specs.Fix.{candidatesIn, fixIn, Whole};
+ghost use Rattle.journal.specs.Record.{cellWords, distancesWords, recordLength, recordOf, CellNarrow, RowNarrow};
 ghost use Rattle.journal.specs.Journal.{put};
 
 // Document 01's candidate: an element number, an intrinsic, a near flag and a raw log.
@@ -36,9 +39,11 @@ pub fn record_length(c: usize, p: usize) -> usize
 
 // The seven words of a candidate, its parent and its score at `at`.
 fn put_cell(words: &mut [u32], at: usize, c: Candidate, parent: u32, score: f64)
-    requires { ⌜ at + 7 ≤ length (now words) ⌝ }
-    requires { ⌜ (c .element < 1024) × (c .near < 2) × (parent < 32) ⌝ }
-    ensures { λ _. ⌜ now (words .exit) ≡ sets (now (words .entry)) at (cellWords (record { candidate = c; parent = parent; score = score })) ⌝ }
+    ghost { Cell }
+    requires { λ cell. ⌜ record { candidate = c; parent = parent; score = score } ≡ cell ⌝ }
+    requires { λ cell. ⌜ CellNarrow cell ⌝ }
+    requires { λ _. ⌜ at + 7 ≤ length (now words) ⌝ }
+    ensures { λ cell _. ⌜ now (words .exit) ≡ sets (now (words .entry)) at (cellWords cell) ⌝ }
 {
     words[at] = 0x2000_0000 + c.element + 1024 * c.near + 2048 * parent;
     put_float(words, at + 1, c.intrinsic);
@@ -47,30 +52,17 @@ fn put_cell(words: &mut [u32], at: usize, c: Candidate, parent: u32, score: f64)
 }
 
 // The words of all candidates, from word 1 on.
-fn put_cells(
-    words: &mut [u32],
-    elements: &[u32],
-    intrinsics: &[f64],
-    near: &[u32],
-    raw_logs: &[f64],
-    parents: &[u32],
-    scores: &[f64],
-)
-    requires { ⌜ CellsFit (givenOf (now elements) (now intrinsics) (now near) (now «raw_logs») []) (now parents) (now scores) ⌝ }
-    requires { ⌜ 1 + 7 * length (now elements) ≤ length (now words) ⌝ }
-    ensures { λ _. ⌜ now (words .exit) ≡ sets (now (words .entry)) 1 (flat cellWords (cellsGiven (givenOf (now (elements .entry)) (now (intrinsics .entry)) (now (near .entry)) (now («raw_logs» .entry)) []) (now (parents .entry)) (now (scores .entry)))) ⌝ }
+fn put_cells(words: &mut [u32], fix: Candidates, parents: &[u32; 16], scores: &[f64; 16])
+    ghost { List Cell }
+    requires { λ cells. ⌜ cellsOf (candidatesIn fix) (now parents) (now scores) ≡ cells ⌝ }
+    requires { λ _. ⌜ Whole fix ⌝ }
+    requires { λ cells. ⌜ ((k : ℕ) → k < length cells → CellNarrow (getD cells k noCell)) ⌝ }
+    requires { λ cells. ⌜ 1 + 7 * length cells ≤ length (now words) ⌝ }
+    ensures { λ cells _. ⌜ now (words .exit) ≡ sets (now (words .entry)) 1 (flat cellWords cells) ⌝ }
 {
-    let n = elements.len();
-    let mut k = 0;
-    while k < n {
-        let c = Candidate {
-            element: elements[k],
-            intrinsic: intrinsics[k],
-            near: near[k],
-            raw_log: raw_logs[k],
-        };
+    for k in 0..fix.count {
+        let c = own_candidate(fix, k);
         put_cell(words, 1 + 7 * k, c, parents[k], scores[k]);
-        k += 1;
     }
 }
 
@@ -92,23 +84,22 @@ fn put_distances(words: &mut [u32], at: usize, distances: &[f64])
 // A row's record from the first word on: its length.
 fn put_row(
     words: &mut [u32],
-    elements: &[u32],
-    intrinsics: &[f64],
-    near: &[u32],
-    raw_logs: &[f64],
+    fix: Candidates,
     distances: &[f64],
-    parents: &[u32],
-    scores: &[f64],
+    parents: &[u32; 16],
+    scores: &[f64; 16],
     p: usize,
 ) -> usize
-    requires { ⌜ RowFit (givenOf (now elements) (now intrinsics) (now near) (now «raw_logs») (now distances)) (now parents) (now scores) p ⌝ }
-    requires { ⌜ recordLength (length (now elements)) p ≤ length (now words) ⌝ }
-    ensures { λ r. ⌜ r ≡ recordLength (length (now (elements .entry))) p ⌝ ∗ ⌜ now (words .exit) ≡ sets (now (words .entry)) 0 (recordOf (rowGiven (givenOf (now (elements .entry)) (now (intrinsics .entry)) (now (near .entry)) (now («raw_logs» .entry)) (now (distances .entry))) (now (parents .entry)) (now (scores .entry)) p)) ⌝ }
+    ghost { Row }
+    requires { λ row. ⌜ rowOf (fixIn fix (now distances)) (now parents) (now scores) p ≡ row ⌝ }
+    requires { λ row. ⌜ Whole fix × RowNarrow row ⌝ }
+    requires { λ row. ⌜ length (recordOf row) ≤ length (now words) ⌝ }
+    ensures { λ row r. ⌜ r ≡ length (recordOf row) ⌝ ∗ ⌜ now (words .exit) ≡ sets (now (words .entry)) 0 (recordOf row) ⌝ }
 {
-    let n = elements.len();
+    let n = fix.count;
     let length = record_length(n, p);
     words[0] = 0x1000_0000 + n as u32 + 32 * p as u32;
-    put_cells(words, elements, intrinsics, near, raw_logs, parents, scores);
+    put_cells(words, fix, parents, scores);
     put_distances(words, 1 + 7 * n, distances);
     words[length - 1] = 0x4000_0000 + length as u32;
     length
@@ -118,30 +109,19 @@ fn put_row(
 pub fn add_row(
     journal: &mut [u32],
     used: usize,
-    elements: &[u32],
-    intrinsics: &[f64],
-    near: &[u32],
-    raw_logs: &[f64],
+    fix: Candidates,
     distances: &[f64],
-    parents: &[u32],
-    scores: &[f64],
+    parents: &[u32; 16],
+    scores: &[f64; 16],
     p: usize,
 )
-    requires { ⌜ RowFit (givenOf (now elements) (now intrinsics) (now near) (now «raw_logs») (now distances)) (now parents) (now scores) p ⌝ }
-    requires { ⌜ (used + recordLength (length (now elements)) p ≤ length (now journal)) × (used + recordLength (length (now elements)) p < 268435456) ⌝ }
-    ensures { λ _. ⌜ now (journal .exit) ≡ put (now (journal .entry)) used (rowGiven (givenOf (now (elements .entry)) (now (intrinsics .entry)) (now (near .entry)) (now («raw_logs» .entry)) (now (distances .entry))) (now (parents .entry)) (now (scores .entry)) p) ⌝ }
+    ghost { Row }
+    requires { λ row. ⌜ rowOf (fixIn fix (now distances)) (now parents) (now scores) p ≡ row ⌝ }
+    requires { λ row. ⌜ Whole fix × RowNarrow row ⌝ }
+    requires { λ row. ⌜ (used + length (recordOf row) ≤ length (now journal)) × (used + length (recordOf row) < 268435456) ⌝ }
+    ensures { λ row _. ⌜ now (journal .exit) ≡ put (now (journal .entry)) used row ⌝ }
 {
-    let n = put_row(
-        &mut journal[used..],
-        elements,
-        intrinsics,
-        near,
-        raw_logs,
-        distances,
-        parents,
-        scores,
-        p,
-    );
+    let n = put_row(&mut journal[used..], fix, distances, parents, scores, p);
     let end = used + n;
     journal[0] = 0x5000_0000 + end as u32;
 }

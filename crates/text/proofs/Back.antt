@@ -1,19 +1,19 @@
 -- What is written is read back: numbers, words and floats. Assumes nothing.
-use Prim.Native.Nat.{ℕ, zero, suc, _+_, _-_, _*_, _/_, _%_, _^_, _≤_, _<_, min, zero-le, suc-le-suc}
-use native.Mathlib.Nat.{le-trans, mul-one, add-zero, zero-mul, zero-add, mod-one, mod-lt, mod-eq-of-lt, pow-zero, pow-suc, pow-succ', one-le-pow}
+use Prim.Native.Nat.{ℕ, zero, suc, _+_, _-_, _*_, _/_, _%_, _^_, _≤_, _<_, zero-le, suc-le-suc}
+use native.Mathlib.Nat.{mul-one, add-zero, mod-one, mod-lt, pow-zero, pow-succ', one-le-pow}
 use native.Mathlib.Omega.{arith}
-use mathlib.Core.Path.{_≡_, refl, sym, ap, _∙_, subst}
-use mathlib.Core.Bool.{Bool, true, false, _&&_, cond}
+use mathlib.Core.Path.{_≡_, refl, sym, ap, _∙_}
+use mathlib.Core.Bool.{Bool, true, false, cond}
 use mathlib.Core.List.{List, [], _∷_}
 use mathlib.Core.Logic.{⊎-elim}
 use lib.Arith.{mod-mul}
 use lib.Dec.{T, eqb, ltb}
 use lib.ListN.{length, drop, length-drop}
-use lib.Ieee.{Float, fits, binary64, toBits, ofBits}
+use lib.Ieee.{Float, fits, binary64, toBits}
 use lib.Ieee.Bits.{ofBits-toBits, toBits-lt}
 use borrow.Author.Tests.{lt-ltb, le-ltb, eq-eqb, ne-eqb, eqb-true, ltb-true, ltb-false}
 use Rattle.lists.proofs.Loops.{two, and-both}
-use Rattle.text.specs.Numbers.{figure, digits, value, whole, fitted, numberOf, hexWordOf}
+use Rattle.text.specs.Numbers.{figure, digits, value, whole, numberOf, hexWordOf}
 use Rattle.text.specs.Floats.{bitsOf, floatOf}
 use Rattle.text.specs.Written.{glyph, lastDigits, zeros, decimal, hexWord, hexFloat}
 use Rattle.text.specs.declared.number.Number.{Number}

@@ -1,15 +1,14 @@
 -- Examples, computed from the definitions. Assumes nothing.
 use mathlib.Core.Path.{_≡_, refl}
 use mathlib.Core.Bool.{true, false}
-use mathlib.Core.List.{List, [], _∷_}
-use Prim.Native.Nat.{ℕ}
+use mathlib.Core.List.{[], _∷_}
 use lib.IntN.{pos, negsuc}
-use lib.Ieee.{inf, fin, nan, binary64, round, ofBits}
+use lib.Ieee.{inf, fin, nan, round, ofBits}
 use Rattle.text.specs.Bytes.{bytes, same}
 use Rattle.text.specs.Words.{breaks, commented, gap, run, nextWord, wordsFrom, allWords}
 use Rattle.text.specs.Numbers.{figure, digits, value, whole, numberOf, hexWordOf}
 use Rattle.text.specs.Floats.{bitsOf, point, decimalOf, signedOf, floatOf}
-use Rattle.text.specs.Written.{glyph, lastDigits, zeros, decimal, hexWord, hexFloat}
+use Rattle.text.specs.Written.{glyph, lastDigits, zeros, decimal, hexWord}
 use Rattle.text.specs.Keywords.{found, keywordOf}
 use Rattle.text.specs.declared.number.Number.{Number}
 use Rattle.text.specs.declared.float.Float64.{Float64}

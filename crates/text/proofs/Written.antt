@@ -1,12 +1,12 @@
 -- A turn of each loop that writes, and its end. Assumes nothing.
-use Prim.Native.Nat.{ℕ, zero, suc, _+_, _-_, _*_, _/_, _%_, _^_, _≤_, _<_, zero-le, suc-le-suc}
+use Prim.Native.Nat.{ℕ, zero, suc, _+_, _-_, _/_, _%_, _^_, _≤_, _<_, zero-le, suc-le-suc}
 use native.Mathlib.Nat.{le-refl, lt-irrefl, sub-self, sub-zero, mod-lt, add-zero, add-suc, suc-add, div-div-eq-div-mul, pow-suc, pow-zero, div-one}
 use native.Mathlib.Numerals.{add-one, sub-one}
 use native.Mathlib.Omega.{arith}
 use mathlib.Core.Path.{_≡_, refl, sym, ap, _∙_}
 use mathlib.Core.Bool.{Bool, true, false, cond}
-use mathlib.Core.List.{List, [], _∷_, _++_}
-use lib.Dec.{eqb, leb}
+use mathlib.Core.List.{List, [], _∷_}
+use lib.Dec.{eqb}
 use lib.ListN.{length, getD, take, drop, set, length-drop}
 use lib.Seq.{sets, drop-length, getD-drop, take-all, take-suc, length-take-le, drop-cons, drop-set-lt, getD-set-same, lt-length-set}
 use borrow.Author.Tests.{le-leb, lt-leb, eq-eqb, ne-eqb}

@@ -4,7 +4,6 @@ use crate::word::same_bytes;
 use journal::float::float_at;
 ghost use mathlib.Core.Path.{_≡_};
 ghost use Prim.Native.Nat.{suc, _^_, _≤_, _<_, min};
-ghost use mathlib.Core.Bool.{Bool};
 ghost use lib.ListN.{getD};
 ghost use lib.Ieee.{binary64, round};
 ghost use Rattle.text.specs.Floats.{bitsOf, point, decimalOf, signedOf, floatOf};

@@ -1,10 +1,10 @@
 -- `journal::record::add_row` meets its contract. Assumes nothing.
 use native.Mathlib.Omega.{arith}
-use mathlib.Core.Path.{sym, _∙_}
 use borrow.Author.Needs.{needs}
-use Rattle.journal.specs.Row.{givenOf, rowGiven}
-use Rattle.journal.specs.Record.{recordLength}
-use Rattle.journal.proofs.Stores.{length-row, row-put}
+use Rattle.journal.specs.Row.{rowOf}
+use Rattle.journal.specs.Fix.{fixIn}
+use Rattle.journal.specs.Record.{recordOf}
+use Rattle.journal.proofs.Stores.{row-put}
 use Rattle.journal.proofs.record.add_row.Statement.{statement}
 use Rattle.journal.proofs.record.add_row.Tie as tie
 
@@ -33,17 +33,18 @@ add-journal : tie.Need-add-journal
 add-journal c = omega arith
 
 slice-write-journal : tie.Need-slice-write-journal
-unfolding recordLength
-slice-write-journal c = omega arith
+unfolding recordOf
+slice-write-journal c =
+    omega (arith, c .before .before .before .before .before .before .pre .1 .0, c .before .before .put-row .ensures .0)
 
 same-length : tie.Need-same-length
 same-length c = search needs
 
 returns : tie.Need-returns
 returns c =
-    let s = c .before .before .before .before .before .before .before .before .before .before .before .before in
-    let g = givenOf (s .args .elements .now) (s .args .intrinsics .now) (s .args .near .now) (s .args .raw-logs .now) (s .args .distances .now) in
-    row-put (s .args .journal .now) _ (s .args .used) _ (rowGiven g (s .args .parents .now) (s .args .scores .now) (s .args .p)) (omega arith) (c .before .before .put-row .ensures .1) (c .before .before .put-row .ensures .0 ∙ sym (length-row g (s .args .parents .now) (s .args .scores .now) (s .args .p) (s .pre .0 .number)))
+    let s = c .before .before .before .before .before .before in
+    let row = rowOf (fixIn (s .args .fix) (s .args .distances .now)) (s .args .parents .now) (s .args .scores .now) (s .args .p) in
+    row-put (s .args .journal .now) _ (s .args .used) _ row (omega arith) (c .before .before .put-row .ensures .1) (c .before .before .put-row .ensures .0)
 
 pub add-row-spec : {M : Type 1} → statement M
 add-row-spec =

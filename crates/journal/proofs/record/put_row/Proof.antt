@@ -1,16 +1,32 @@
 -- `journal::record::put_row` meets its contract. Assumes nothing.
+use Prim.Native.Nat.{_*_}
 use native.Mathlib.Nat.{mul-le-mul}
 use native.Mathlib.Omega.{arith}
-use borrow.Author.Needs.{needs}
-use lib.ListN.{length-set}
-use Rattle.journal.specs.Row.{givenOf, cellsGiven}
-use Rattle.journal.specs.Record.{recordLength}
-use Rattle.journal.proofs.Stores.{without-distances, row-stored}
+use mathlib.Core.Path.{_≡_, sym, _∙_}
+use lib.ListN.{length, length-set}
+use Rattle.journal.specs.Row.{Row, size, rowOf}
+use Rattle.journal.specs.Fix.{fixIn}
+use Rattle.journal.specs.Record.{recordLength, recordOf}
+use Rattle.journal.proofs.Gathered.{count-in}
+use Rattle.journal.proofs.Stores.{cells-many, row-stored, row-length}
 use Rattle.journal.proofs.record.put_row.Statement.{statement}
 use Rattle.journal.proofs.record.put_row.Tie as tie
 
+abbrev row : tie.Start → Row
+row s = rowOf (fixIn (s .args .fix) (s .args .distances .now)) (s .args .parents .now) (s .args .scores .now) (s .args .p)
+
+many : (s : tie.Start) → size (row s) ≡ s .args .fix .count
+many s = cells-many _ (s .args .parents .now) (s .args .scores .now) ∙ count-in _ (s .pre .0 .0)
+
+number : (s : tie.Start) → length (s .args .distances .now) ≡ s .args .fix .count * s .args .p
+number s = rw (← many s) (s .pre .0 .1 .number)
+
+long : (s : tie.Start) → length (recordOf (row s)) ≡ recordLength (s .args .fix .count) (s .args .p)
+long s = row-length (row s) _ (s .pre .0 .1 .number) (many s)
+
 record-length-requires : tie.Need-record-length-requires
-record-length-requires c κs = search needs
+record-length-requires c κs =
+    let s = c .before .before in (omega (arith, s .pre .0 .0 .few), omega (arith, s .pre .0 .1 .before))
 
 cast-words : tie.Need-cast-words
 cast-words c = omega arith
@@ -29,13 +45,14 @@ add-words-2 c = omega arith
 
 slice-write-words : tie.Need-slice-write-words
 unfolding recordLength
-slice-write-words c = omega arith
+slice-write-words c =
+    let s = c .before .before .before in omega (arith, long s, s .pre .1)
 
 put-cells-requires : tie.Need-put-cells-requires
 unfolding recordLength
 put-cells-requires c κs =
-    let s = c .before .before .before .before .before .before .before .before .before .before in
-    (without-distances _ _ _ _ (s .args .distances .now) _ _ (s .pre .0 .cells), simp length-set (omega arith))
+    let s = c .before .before .before .before in
+    (s .pre .0 .0, (s .pre .0 .1 .cell, simp length-set (omega (arith, long s, many s, s .pre .1))))
 
 mul-put-distances : tie.Need-mul-put-distances
 mul-put-distances c = omega arith
@@ -46,9 +63,9 @@ add-put-distances c = omega arith
 put-distances-requires : tie.Need-put-distances-requires
 unfolding recordLength
 put-distances-requires c κs =
-    let s = c .before .before .before .before .before .before .before .before .before .before .before .before .before .before in
-    let product = mul-le-mul (s .pre .0 .cells .few) (s .pre .0 .before) in
-    (omega (arith, s .pre .0 .number, simp length-set at (c .before .before .before .put-cells .kept .0)), omega (arith, s .pre .0 .number, product))
+    let s = c .before .before .before .before .before .before .before .before in
+    let product = mul-le-mul (s .pre .0 .0 .few) (s .pre .0 .1 .before) in
+    (omega (arith, number s, long s, s .pre .1, simp length-set at (c .before .before .before .put-cells .kept .0)), omega (arith, number s, product))
 
 cast-words-3 : tie.Need-cast-words-3
 cast-words-3 c = omega arith
@@ -65,19 +82,18 @@ mul-words-2 c = omega arith
 
 slice-write-words-2 : tie.Need-slice-write-words-2
 unfolding recordLength
-slice-write-words-2 c = omega (arith, c .before .before .before .before .before .before .before .before .record-length .ensures .0, simp length-set at (c .before .before .before .before .before .before .put-cells .kept .0), c .before .before .put-distances .kept .0, c .before .before .before .before .before .before .before .before .before .before .before .before .before .before .before .before .before .pre .1)
+slice-write-words-2 c =
+    let s = c .before .before .before .before .before .before .before .before .before .before .before in
+    omega (arith, c .before .before .before .before .before .before .before .before .record-length .ensures .0, long s, simp length-set at (c .before .before .before .before .before .before .put-cells .kept .0), c .before .before .put-distances .kept .0, s .pre .1)
 
 same-length : tie.Need-same-length
 same-length c = simp (length-set, c .before .before .put-distances .kept .0, c .before .before .before .before .before .before .put-cells .kept .0)
 
 returns : tie.Need-returns
-unfolding cellsGiven
 returns c =
-    let s = c .before .before .before .before .before .before .before .before .before .before .before .before .before .before .before .before .before in
-    let g = givenOf (s .args .elements .now) (s .args .intrinsics .now) (s .args .near .now) (s .args .raw-logs .now) (s .args .distances .now) in (
-      c .before .before .before .before .before .before .before .before .record-length .ensures .0,
-      row-stored (s .args .words .now) _ _ g (s .args .parents .now) (s .args .scores .now) (s .args .p) _ (s .pre .0 .number) (c .before .before .before .before .before .before .before .before .record-length .ensures .0) (c .before .before .before .before .before .before .put-cells .ensures) (c .before .before .put-distances .ensures),
-    )
+    let s = c .before .before .before .before .before .before .before .before .before .before .before in
+    let length-is = c .before .before .before .before .before .before .before .before .record-length .ensures .0 in
+    (length-is ∙ sym (long s), row-stored (s .args .words .now) _ _ (row s) (s .pre .0 .1 .number) _ (many s) _ length-is (c .before .before .before .before .before .before .put-cells .ensures) (c .before .before .put-distances .ensures))
 
 pub put-row-spec : {M : Type 1} → statement M
 put-row-spec =

@@ -1,5 +1,4 @@
 -- `text::cursor::at_end` meets its contract. Assumes nothing.
-use mathlib.Core.Path.{_≡_, sym, ap, _∙_}
 use Rattle.text.specs.Cursor.{atEnd}
 use borrow.Author.Needs.{needs}
 use Rattle.text.proofs.cursor.at_end.Statement.{statement}

@@ -1,6 +1,5 @@
 -- `text::cursor::float_taken` meets its contract. Assumes nothing.
 use lib.Ieee.{ofBits}
-use mathlib.Core.Path.{_≡_, sym, ap, _∙_}
 use borrow.Author.Needs.{needs}
 use Rattle.text.proofs.cursor.float_taken.Statement.{statement}
 use Rattle.text.proofs.cursor.float_taken.Tie as tie

@@ -1,5 +1,4 @@
 -- `text::cursor::number_taken` meets its contract. Assumes nothing.
-use mathlib.Core.Path.{_≡_, sym, ap, _∙_}
 use borrow.Author.Needs.{needs}
 use Rattle.text.proofs.cursor.number_taken.Statement.{statement}
 use Rattle.text.proofs.cursor.number_taken.Tie as tie

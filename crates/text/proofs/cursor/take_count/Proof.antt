@@ -1,8 +1,7 @@
 -- `text::cursor::take_count` meets its contract. Assumes nothing.
 use borrow.Author.Needs.{needs}
 use borrow.Author.Tests.{le-leb, lt-leb}
-use mathlib.Core.Path.{_≡_, ap, sym, _∙_}
-use Rattle.text.specs.Cursor.{takeCount, refused}
+use Rattle.text.specs.Cursor.{takeCount}
 use Rattle.text.proofs.cursor.take_count.Statement.{statement}
 use Rattle.text.proofs.cursor.take_count.Tie as tie
 

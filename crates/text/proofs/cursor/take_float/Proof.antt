@@ -3,7 +3,6 @@ use Rattle.text.specs.Floats.{floatOf}
 use Rattle.text.specs.Cursor.{floatTaken}
 use Rattle.text.proofs.Reading.{in-turn}
 use lib.Ieee.{ofBits}
-use mathlib.Core.Path.{_≡_, sym, ap, _∙_}
 use Rattle.text.specs.Cursor.{takeFloat}
 use borrow.Author.Needs.{needs}
 use Rattle.text.proofs.cursor.take_float.Statement.{statement}

@@ -2,7 +2,6 @@
 use Rattle.text.specs.Numbers.{hexWordOf}
 use Rattle.text.specs.Cursor.{numberTaken}
 use Rattle.text.proofs.Reading.{in-turn}
-use mathlib.Core.Path.{_≡_, sym, ap, _∙_}
 use Rattle.text.specs.Cursor.{takeHexWord}
 use borrow.Author.Needs.{needs}
 use Rattle.text.proofs.cursor.take_hex_word.Statement.{statement}

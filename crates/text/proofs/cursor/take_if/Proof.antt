@@ -1,5 +1,5 @@
 -- `text::cursor::take_if` meets its contract. Assumes nothing.
-use mathlib.Core.Path.{_≡_, sym, ap, _∙_}
+use mathlib.Core.Path.{sym, _∙_}
 use Rattle.text.specs.Cursor.{takeIf}
 use borrow.Author.Needs.{needs}
 use Rattle.text.proofs.cursor.take_if.Statement.{statement}

@@ -1,5 +1,4 @@
 -- `text::cursor::take_keyword` meets its contract. Assumes nothing.
-use mathlib.Core.Path.{_≡_, sym, ap, _∙_}
 use Rattle.text.specs.Cursor.{takeKeyword}
 use borrow.Author.Needs.{needs}
 use Rattle.text.proofs.cursor.take_keyword.Statement.{statement}

@@ -2,7 +2,6 @@
 use Rattle.text.specs.Numbers.{numberOf}
 use Rattle.text.specs.Cursor.{numberTaken}
 use Rattle.text.proofs.Reading.{in-turn}
-use mathlib.Core.Path.{_≡_, sym, ap, _∙_}
 use Rattle.text.specs.Cursor.{takeNumber}
 use borrow.Author.Needs.{needs}
 use Rattle.text.proofs.cursor.take_number.Statement.{statement}

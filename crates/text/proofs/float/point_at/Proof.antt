@@ -3,7 +3,7 @@ use native.Mathlib.Nat.{zero-add}
 use borrow.Author.Needs.{needs}
 use native.Mathlib.Omega.{arith}
 use Prim.Native.Nat.{_+_, _-_, _≤_}
-use mathlib.Core.Path.{_≡_, refl, sym, _∙_}
+use mathlib.Core.Path.{_≡_, sym, _∙_}
 use lib.ListN.{length, drop}
 use Rattle.text.specs.Floats.{point}
 use Rattle.text.proofs.Floats.{point-past, point-stop, point-turn}

@@ -3,11 +3,10 @@ use native.Mathlib.Numerals.{add-one}
 use Prim.Native.Nat.{_*_}
 use mathlib.Core.Path.{ap}
 use Rattle.text.proofs.Floats.{ten-exact}
-use borrow.Author.Needs.{needs}
 use native.Mathlib.Omega.{arith}
 use Prim.Native.Nat.{_^_, _-_, _≤_}
-use mathlib.Core.Path.{_≡_, refl, sym, _∙_}
-use native.Mathlib.Nat.{pow-suc, pow-le-pow-right}
+use mathlib.Core.Path.{_≡_, refl, _∙_}
+use native.Mathlib.Nat.{pow-suc}
 use Rattle.text.proofs.float.power_of_ten.Statement.{statement}
 use Rattle.text.proofs.float.power_of_ten.Tie as tie
 

@@ -1,6 +1,6 @@
 -- `text::float::quotient` meets its contract. Assumes nothing.
-use lib.Ieee.{neg, round, binary64}
-use mathlib.Core.Path.{_≡_, ap, sym, _∙_}
+use lib.Ieee.{neg}
+use mathlib.Core.Path.{ap}
 use Rattle.binary64.proofs.Sum.{round-neg}
 use native.Mathlib.Omega.{arith}
 use Rattle.text.proofs.Floats.{ten-exact, divided, whole-counts}

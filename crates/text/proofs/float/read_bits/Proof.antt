@@ -4,7 +4,7 @@ use Rattle.text.specs.declared.float.Float64.the-variants.{Value}
 use Rattle.journal.proofs.Stores.{take-rest}
 use borrow.Author.Needs.{needs}
 use native.Mathlib.Omega.{arith}
-use mathlib.Core.Path.{_≡_, sym, _∙_}
+use mathlib.Core.Path.{sym, _∙_}
 use lib.Seq.{length-take-le}
 use Rattle.text.proofs.Floats.{bits-short, bits-front-bad, bits-back-bad, bits-good}
 use Rattle.text.proofs.float.read_bits.Statement.{statement}

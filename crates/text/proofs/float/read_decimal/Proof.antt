@@ -2,7 +2,7 @@
 use lib.Seq.{length-take-le}
 use borrow.Author.Needs.{needs}
 use native.Mathlib.Omega.{arith}
-use mathlib.Core.Path.{_≡_, sym, ap, _∙_}
+use mathlib.Core.Path.{sym}
 use Rattle.text.proofs.Floats.{point-le, decimal-empty, decimal-pointed, decimal-long, decimal-front-bad, decimal-behind-bad, decimal-good}
 use Rattle.text.proofs.float.read_decimal.Statement.{statement}
 use Rattle.text.proofs.float.read_decimal.Tie as tie

@@ -1,5 +1,5 @@
 -- `text::float::read_float` meets its contract. Assumes nothing.
-use mathlib.Core.Path.{_≡_, sym, ap, _∙_}
+use mathlib.Core.Path.{sym, ap, _∙_}
 use Rattle.text.specs.Floats.{floatOf, orElse, signedOf}
 use borrow.Author.Needs.{needs}
 use Rattle.text.proofs.float.read_float.Statement.{statement}

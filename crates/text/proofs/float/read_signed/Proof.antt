@@ -1,8 +1,7 @@
 -- `text::float::read_signed` meets its contract. Assumes nothing.
 use Rattle.journal.proofs.Stores.{take-rest}
 use borrow.Author.Needs.{needs}
-use native.Mathlib.Omega.{arith}
-use mathlib.Core.Path.{_≡_, sym, ap, _∙_}
+use mathlib.Core.Path.{sym, ap, _∙_}
 use borrow.Author.Tests.{eq-eqb, ne-eqb}
 use Rattle.text.specs.Floats.{signedOf}
 use Rattle.text.specs.declared.float.Float64.the-variants.{Value}

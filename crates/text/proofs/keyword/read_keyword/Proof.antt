@@ -1,6 +1,5 @@
 -- `text::keyword::read_keyword` meets its contract. Assumes nothing.
 use borrow.Author.Needs.{needs}
-use native.Mathlib.Omega.{arith}
 use Rattle.text.proofs.Keywords.{keyword-at, keyword-other}
 use Rattle.text.proofs.keyword.read_keyword.Statement.{statement}
 use Rattle.text.proofs.keyword.read_keyword.Tie as tie

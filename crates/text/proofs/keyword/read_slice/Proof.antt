@@ -1,6 +1,5 @@
 -- `text::keyword::read_slice` meets its contract. Assumes nothing.
 use borrow.Author.Needs.{needs}
-use native.Mathlib.Omega.{arith}
 use Rattle.text.proofs.Keywords.{slice-at, slice-other}
 use Rattle.text.proofs.keyword.read_slice.Statement.{statement}
 use Rattle.text.proofs.keyword.read_slice.Tie as tie

@@ -1,5 +1,4 @@
 -- `text::word::same_bytes` meets its contract. Assumes nothing.
-use native.Mathlib.Nat.{zero-add}
 use borrow.Author.Needs.{needs}
 use native.Mathlib.Omega.{arith}
 use Prim.Native.Nat.{_-_, _≤_}

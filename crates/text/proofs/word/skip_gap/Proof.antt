@@ -7,8 +7,7 @@ use mathlib.Core.Bool.{false}
 use lib.ListN.{length, drop}
 use Rattle.text.specs.Words.{gap}
 use Rattle.text.proofs.Words.{gap-past, gap-stop, gap-turn}
-use native.Mathlib.Omega.{arith}
-use Prim.Native.Nat.{_+_, _-_, _≤_}
+use Prim.Native.Nat.{_+_, _-_}
 use Rattle.text.proofs.word.skip_gap.Statement.{statement}
 use Rattle.text.proofs.word.skip_gap.Tie as tie
 

@@ -5,8 +5,7 @@ use mathlib.Core.Path.{_≡_, refl, sym, _∙_}
 use lib.ListN.{length, drop}
 use Rattle.text.specs.Words.{run}
 use Rattle.text.proofs.Words.{run-past, run-stop, run-turn}
-use native.Mathlib.Omega.{arith}
-use Prim.Native.Nat.{_+_, _-_, _≤_}
+use Prim.Native.Nat.{_+_, _-_}
 use Rattle.text.proofs.word.skip_word.Statement.{statement}
 use Rattle.text.proofs.word.skip_word.Tie as tie
 
