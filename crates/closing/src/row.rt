@@ -8,7 +8,7 @@ use journal::check::read_journal;
 use journal::record::distance_count;
 ghost use mathlib.Core.Path.{_≡_};
 ghost use Rattle.journal.specs.Record.{readRow};
-ghost use Rattle.closing.specs.Row.{RecordWhole, buffersOf, fitted, reading, rowAnswer, filled};
+ghost use Rattle.closing.specs.Row.{Buffers, RecordWhole, buffersOf, fitted, reading, rowAnswer, filled};
 
 // What reading a row answers: its number of candidates and of predecessor candidates, or a refusal's number.
 pub enum RowRead {
@@ -27,9 +27,13 @@ fn copy_row(
     scores: &mut [f64],
     distances: &mut [f64],
 ) -> RowRead
-    requires { ⌜ RecordWhole (now words) ⌝ }
-    ensures { λ r. ⌜ r ≡ rowAnswer (fitted (buffersOf (now (elements .entry)) (now (intrinsics .entry)) (now (near .entry)) (now («raw_logs» .entry)) (now (parents .entry)) (now (scores .entry)) (now (distances .entry))) (readRow (now (words .entry)))) ⌝ }
-    ensures { λ _. ⌜ buffersOf (now (elements .exit)) (now (intrinsics .exit)) (now (near .exit)) (now («raw_logs» .exit)) (now (parents .exit)) (now (scores .exit)) (now (distances .exit)) ≡ filled (fitted (buffersOf (now (elements .entry)) (now (intrinsics .entry)) (now (near .entry)) (now («raw_logs» .entry)) (now (parents .entry)) (now (scores .entry)) (now (distances .entry))) (readRow (now (words .entry)))) (buffersOf (now (elements .entry)) (now (intrinsics .entry)) (now (near .entry)) (now («raw_logs» .entry)) (now (parents .entry)) (now (scores .entry)) (now (distances .entry))) ⌝ }
+    ghost { Buffers }
+    requires { λ b. ⌜ buffersOf (now elements) (now intrinsics) (now near) (now «raw_logs») (now parents) (now scores) (now distances) ≡ b ⌝ }
+    requires { λ _. ⌜ RecordWhole (now words) ⌝ }
+    ensures { λ b r.
+        let l = fitted b (readRow (now (words .entry))) in
+        ⌜ (r ≡ rowAnswer l)
+        × (buffersOf (now (elements .exit)) (now (intrinsics .exit)) (now (near .exit)) (now («raw_logs» .exit)) (now (parents .exit)) (now (scores .exit)) (now (distances .exit)) ≡ filled l b) ⌝ }
 {
     let count = (words[0] % 32) as usize;
     let before = (words[0] / 32 % 32) as usize;
@@ -65,8 +69,11 @@ pub fn read_row(
     scores: &mut [f64],
     distances: &mut [f64],
 ) -> RowRead
-    ensures { λ r. ⌜ r ≡ rowAnswer (reading (now (journal .entry)) row (buffersOf (now (elements .entry)) (now (intrinsics .entry)) (now (near .entry)) (now («raw_logs» .entry)) (now (parents .entry)) (now (scores .entry)) (now (distances .entry)))) ⌝ }
-    ensures { λ _. ⌜ buffersOf (now (elements .exit)) (now (intrinsics .exit)) (now (near .exit)) (now («raw_logs» .exit)) (now (parents .exit)) (now (scores .exit)) (now (distances .exit)) ≡ filled (reading (now (journal .entry)) row (buffersOf (now (elements .entry)) (now (intrinsics .entry)) (now (near .entry)) (now («raw_logs» .entry)) (now (parents .entry)) (now (scores .entry)) (now (distances .entry)))) (buffersOf (now (elements .entry)) (now (intrinsics .entry)) (now (near .entry)) (now («raw_logs» .entry)) (now (parents .entry)) (now (scores .entry)) (now (distances .entry))) ⌝ }
+    ensures { λ r.
+        let b = buffersOf (now (elements .entry)) (now (intrinsics .entry)) (now (near .entry)) (now («raw_logs» .entry)) (now (parents .entry)) (now (scores .entry)) (now (distances .entry)) in
+        let l = reading (now (journal .entry)) row b in
+        ⌜ (r ≡ rowAnswer l)
+        × (buffersOf (now (elements .exit)) (now (intrinsics .exit)) (now (near .exit)) (now («raw_logs» .exit)) (now (parents .exit)) (now (scores .exit)) (now (distances .exit)) ≡ filled l b) ⌝ }
 {
     let found = read_journal(journal);
     match found {

@@ -3,7 +3,7 @@ pub mod cursor;
 pub mod float;
 pub mod keyword;
 pub mod list;
-pub mod number;
+mod number;
 pub mod window;
 pub mod word;
 pub mod write;

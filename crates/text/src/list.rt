@@ -5,7 +5,8 @@ use crate::cursor::take_number;
 ghost use mathlib.Core.Path.{_≡_};
 ghost use Prim.Native.Nat.{_<_};
 ghost use lib.ListN.{take};
-ghost use Rattle.text.specs.Lists.{numberInto, floatInto, elementsOf, element, readElements, relationsOf, relation, readRelations, candidatesOf, candidate, readCandidates, readDistances, segmentsOf, segment, readSegments};
+ghost use Rattle.text.specs.Lists.{numberInto, floatInto, elementsOf, element, readElements, relationsOf, relation, readRelations};
+ghost use Rattle.text.specs.Lists.{candidatesOf, candidate, readCandidates, readDistances, segmentsOf, segment, readSegments};
 
 // The first n entries of a slice; all of them where there are fewer.
 pub fn first_numbers<'a>(numbers: &'a [u32], n: usize) -> &'a [u32]
@@ -77,7 +78,9 @@ fn read_element(
     flags: &mut [u32],
 ) -> Cursor
     requires { ⌜ k < 4294967296 ⌝ }
-    ensures { λ r. ⌜ elementsOf r (now (lengths .exit)) (now (headings .exit)) (now (flags .exit)) ≡ element (now (text .entry)) k (elementsOf c (now (lengths .entry)) (now (headings .entry)) (now (flags .entry))) ⌝ }
+    ensures { λ r.
+        let s = elementsOf c (now (lengths .entry)) (now (headings .entry)) (now (flags .entry)) in
+        ⌜ elementsOf r (now (lengths .exit)) (now (headings .exit)) (now (flags .exit)) ≡ element (now (text .entry)) k s ⌝ }
 {
     let c1 = float_into(text, c, k, lengths);
     let c2 = float_into(text, c1, 4 * k, headings);
@@ -96,7 +99,9 @@ pub fn read_elements(
     headings: &mut [f64],
     flags: &mut [u32],
 ) -> Cursor
-    ensures { λ r. ⌜ elementsOf r (now (lengths .exit)) (now (headings .exit)) (now (flags .exit)) ≡ readElements (now (text .entry)) n (elementsOf c (now (lengths .entry)) (now (headings .entry)) (now (flags .entry))) ⌝ }
+    ensures { λ r.
+        let s = elementsOf c (now (lengths .entry)) (now (headings .entry)) (now (flags .entry)) in
+        ⌜ elementsOf r (now (lengths .exit)) (now (headings .exit)) (now (flags .exit)) ≡ readElements (now (text .entry)) n s ⌝ }
 {
     let mut cursor = c;
     for k in 0..n as usize {
@@ -117,7 +122,9 @@ fn read_relation(
     forward: &mut [u32],
     backward: &mut [u32],
 ) -> Cursor
-    ensures { λ r. ⌜ relationsOf r (now (from .exit)) (now (to .exit)) (now («from_side» .exit)) (now («to_side» .exit)) (now (forward .exit)) (now (backward .exit)) ≡ relation (now (text .entry)) k (relationsOf c (now (from .entry)) (now (to .entry)) (now («from_side» .entry)) (now («to_side» .entry)) (now (forward .entry)) (now (backward .entry))) ⌝ }
+    ensures { λ r.
+        let s = relationsOf c (now (from .entry)) (now (to .entry)) (now («from_side» .entry)) (now («to_side» .entry)) (now (forward .entry)) (now (backward .entry)) in
+        ⌜ relationsOf r (now (from .exit)) (now (to .exit)) (now («from_side» .exit)) (now («to_side» .exit)) (now (forward .exit)) (now (backward .exit)) ≡ relation (now (text .entry)) k s ⌝ }
 {
     let c1 = number_into(text, c, k, from);
     let c2 = number_into(text, c1, k, to);
@@ -139,7 +146,9 @@ pub fn read_relations(
     forward: &mut [u32],
     backward: &mut [u32],
 ) -> Cursor
-    ensures { λ r. ⌜ relationsOf r (now (from .exit)) (now (to .exit)) (now («from_side» .exit)) (now («to_side» .exit)) (now (forward .exit)) (now (backward .exit)) ≡ readRelations (now (text .entry)) n (relationsOf c (now (from .entry)) (now (to .entry)) (now («from_side» .entry)) (now («to_side» .entry)) (now (forward .entry)) (now (backward .entry))) ⌝ }
+    ensures { λ r.
+        let s = relationsOf c (now (from .entry)) (now (to .entry)) (now («from_side» .entry)) (now («to_side» .entry)) (now (forward .entry)) (now (backward .entry)) in
+        ⌜ relationsOf r (now (from .exit)) (now (to .exit)) (now («from_side» .exit)) (now («to_side» .exit)) (now (forward .exit)) (now (backward .exit)) ≡ readRelations (now (text .entry)) n s ⌝ }
 {
     let mut cursor = c;
     for k in 0..n as usize {
@@ -168,7 +177,9 @@ fn read_candidate(
     near: &mut [u32],
     raw_logs: &mut [f64],
 ) -> Cursor
-    ensures { λ r. ⌜ candidatesOf r (now (elements .exit)) (now (intrinsics .exit)) (now (near .exit)) (now («raw_logs» .exit)) ≡ candidate (now (text .entry)) k (candidatesOf c (now (elements .entry)) (now (intrinsics .entry)) (now (near .entry)) (now («raw_logs» .entry))) ⌝ }
+    ensures { λ r.
+        let s = candidatesOf c (now (elements .entry)) (now (intrinsics .entry)) (now (near .entry)) (now («raw_logs» .entry)) in
+        ⌜ candidatesOf r (now (elements .exit)) (now (intrinsics .exit)) (now (near .exit)) (now («raw_logs» .exit)) ≡ candidate (now (text .entry)) k s ⌝ }
 {
     let c1 = number_into(text, c, k, elements);
     let c2 = float_into(text, c1, k, intrinsics);
@@ -186,7 +197,9 @@ pub fn read_candidates(
     near: &mut [u32],
     raw_logs: &mut [f64],
 ) -> Cursor
-    ensures { λ r. ⌜ candidatesOf r (now (elements .exit)) (now (intrinsics .exit)) (now (near .exit)) (now («raw_logs» .exit)) ≡ readCandidates (now (text .entry)) n (candidatesOf c (now (elements .entry)) (now (intrinsics .entry)) (now (near .entry)) (now («raw_logs» .entry))) ⌝ }
+    ensures { λ r.
+        let s = candidatesOf c (now (elements .entry)) (now (intrinsics .entry)) (now (near .entry)) (now («raw_logs» .entry)) in
+        ⌜ candidatesOf r (now (elements .exit)) (now (intrinsics .exit)) (now (near .exit)) (now («raw_logs» .exit)) ≡ readCandidates (now (text .entry)) n s ⌝ }
 {
     let mut cursor = c;
     for k in 0..n as usize {
@@ -218,7 +231,9 @@ fn read_segment(
     firsts: &mut [u32],
     lasts: &mut [u32],
 ) -> Cursor
-    ensures { λ r. ⌜ segmentsOf r (now (elements .exit)) (now (starts .exit)) (now (ends .exit)) (now (firsts .exit)) (now (lasts .exit)) ≡ segment (now (text .entry)) k (segmentsOf c (now (elements .entry)) (now (starts .entry)) (now (ends .entry)) (now (firsts .entry)) (now (lasts .entry))) ⌝ }
+    ensures { λ r.
+        let s = segmentsOf c (now (elements .entry)) (now (starts .entry)) (now (ends .entry)) (now (firsts .entry)) (now (lasts .entry)) in
+        ⌜ segmentsOf r (now (elements .exit)) (now (starts .exit)) (now (ends .exit)) (now (firsts .exit)) (now (lasts .exit)) ≡ segment (now (text .entry)) k s ⌝ }
 {
     let c1 = number_into(text, c, k, elements);
     let c2 = float_into(text, c1, k, starts);
@@ -238,7 +253,9 @@ pub fn read_segments(
     firsts: &mut [u32],
     lasts: &mut [u32],
 ) -> Cursor
-    ensures { λ r. ⌜ segmentsOf r (now (elements .exit)) (now (starts .exit)) (now (ends .exit)) (now (firsts .exit)) (now (lasts .exit)) ≡ readSegments (now (text .entry)) n (segmentsOf c (now (elements .entry)) (now (starts .entry)) (now (ends .entry)) (now (firsts .entry)) (now (lasts .entry))) ⌝ }
+    ensures { λ r.
+        let s = segmentsOf c (now (elements .entry)) (now (starts .entry)) (now (ends .entry)) (now (firsts .entry)) (now (lasts .entry)) in
+        ⌜ segmentsOf r (now (elements .exit)) (now (starts .exit)) (now (ends .exit)) (now (firsts .exit)) (now (lasts .exit)) ≡ readSegments (now (text .entry)) n s ⌝ }
 {
     let mut cursor = c;
     for k in 0..n as usize {
