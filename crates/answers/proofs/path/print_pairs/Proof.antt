@@ -1,8 +1,8 @@
--- `answers::paths::print_pairs` meets its contract. Assumes nothing.
+-- `answers::path::print_pairs` meets its contract. Assumes nothing.
 use Prim.Native.Nat.{_-_}
 use native.Mathlib.Omega.{arith}
-use Rattle.answers.proofs.paths.print_pairs.Statement.{statement}
-use Rattle.answers.proofs.paths.print_pairs.Tie as tie
+use Rattle.answers.proofs.path.print_pairs.Statement.{statement}
+use Rattle.answers.proofs.path.print_pairs.Tie as tie
 
 abbrev Inv-loop : tie.InvT-loop
 Inv-loop out₀ start rows candidates n at₀ k₀ out at k = Unit {0}

@@ -1,8 +1,8 @@
--- `answers::paths::print_candidates` meets its contract. Assumes nothing.
+-- `answers::row::print_candidates` meets its contract. Assumes nothing.
 use Prim.Native.Nat.{_-_}
 use native.Mathlib.Omega.{arith}
-use Rattle.answers.proofs.paths.print_candidates.Statement.{statement}
-use Rattle.answers.proofs.paths.print_candidates.Tie as tie
+use Rattle.answers.proofs.row.print_candidates.Statement.{statement}
+use Rattle.answers.proofs.row.print_candidates.Tie as tie
 
 abbrev Inv-loop : tie.InvT-loop
 Inv-loop out₀ start n elements intrinsics near raw-logs parents scores at₀ k₀ out at k = Unit {0}

@@ -1,8 +1,8 @@
--- `answers::paths::print_distances` meets its contract. Assumes nothing.
+-- `answers::row::print_distances` meets its contract. Assumes nothing.
 use Prim.Native.Nat.{_-_}
 use native.Mathlib.Omega.{arith}
-use Rattle.answers.proofs.paths.print_distances.Statement.{statement}
-use Rattle.answers.proofs.paths.print_distances.Tie as tie
+use Rattle.answers.proofs.row.print_distances.Statement.{statement}
+use Rattle.answers.proofs.row.print_distances.Tie as tie
 
 abbrev Inv-loop : tie.InvT-loop
 Inv-loop out₀ start distances at₀ k₀ k-end out at k = Unit {0}

@@ -1,8 +1,8 @@
--- `answers::paths::print_steps` meets its contract. Assumes nothing.
+-- `answers::listing::print_steps` meets its contract. Assumes nothing.
 use Prim.Native.Nat.{_-_}
 use native.Mathlib.Omega.{arith}
-use Rattle.answers.proofs.paths.print_steps.Statement.{statement}
-use Rattle.answers.proofs.paths.print_steps.Tie as tie
+use Rattle.answers.proofs.listing.print_steps.Statement.{statement}
+use Rattle.answers.proofs.listing.print_steps.Tie as tie
 
 abbrev Inv-loop : tie.InvT-loop
 Inv-loop out₀ start n predecessor-rows predecessor-candidates rows candidates scores at₀ k₀ out at k = Unit {0}
