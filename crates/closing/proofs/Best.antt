@@ -10,7 +10,7 @@ use Rattle.journal.specs.Row.{Row, size, scoreOf, scores}
 use Rattle.rows.specs.Row.{bestOf}
 use Rattle.decoder.proofs.Best.{lastBest-all, lastBest-at, lastBest-greatest}
 use Rattle.decoder.proofs.Bound.{between}
-use Rattle.decoder.proofs.Scores.{scores-intro, scores-elim}
+use Rattle.decoder.proofs.Cells.{scores-intro, scores-elim}
 
 module _ (r : Row) (low : (i : ℕ) → T (le (scoreOf r i) pzero)) where
   -- it lies from a finite score to 0

@@ -2,6 +2,7 @@
 pub mod Records
 pub mod Best
 pub mod Steps
+pub mod Storing
 pub mod Buffers
 pub mod Rows
 pub mod Closing

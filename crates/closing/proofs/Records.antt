@@ -7,7 +7,7 @@ use lib.ListN.{getD}
 use Rattle.journal.specs.Row.{Cell, size, cellOf}
 use Rattle.journal.specs.Record.{readRow}
 use Rattle.journal.proofs.Tests.{drop-first}
-use Rattle.journal.proofs.Records.{row-size, row-cell}
+use Rattle.journal.proofs.RecordRead.{row-size, row-cell}
 use Rattle.rows.specs.Scoring.{CandidateStands, RecordStands}
 use Rattle.closing.specs.Walk.{RowStands}
 

@@ -17,7 +17,8 @@ use Rattle.journal.specs.declared.check.Predecessor.{Predecessor}
 use Rattle.journal.specs.declared.check.Survey.the-variants.{NotWellFormed, WellFormed}
 use Rattle.journal.specs.WellFormed.{Obey}
 use Rattle.journal.proofs.Tests.{cell-at}
-use Rattle.journal.proofs.Records.{length-each, row-size, row-cell, row-distance}
+use Rattle.journal.proofs.Records.{length-each}
+use Rattle.journal.proofs.RecordRead.{row-size, row-cell, row-distance}
 use Rattle.journal.proofs.Reading.{length-record}
 use Rattle.journal.proofs.Ends.{Surveyed, survey-rows, survey-no, struck-stand}
 use Rattle.journal.proofs.Places.{row-obeys, row-at, row-inside}

@@ -1,5 +1,5 @@
 -- The walk back along the parents: what stands at each of its places, and what a step and its store leave. Assumes nothing.
-use Prim.Native.Nat.{ℕ, zero, suc, _+_, _-_, _*_, _<_, _≤_}
+use Prim.Native.Nat.{ℕ, suc, _+_, _-_, _*_, _<_, _≤_}
 use native.Mathlib.Omega.{arith}
 use native.Mathlib.Nat.{le-refl}
 use mathlib.Core.Path.{_≡_, refl, sym, ap, _∙_, subst}
@@ -8,7 +8,7 @@ use mathlib.Core.List.{List, [], _∷_, map, reverseAux}
 use mathlib.Core.Option.{some}
 use borrow.Author.Tests.{lt-ltb, le-ltb, ne-eqb}
 use lib.Dec.{T, ltb, eqb, ltb→lt}
-use lib.ListN.{length, getD, drop, set, length-drop, length-set, drop-of-length-le}
+use lib.ListN.{length, getD, drop, set, length-drop, drop-of-length-le}
 use lib.Seq.{drop-cons}
 use lib.Ieee.{Float, inf, fin, nan, le}
 use lib.Ieee.Fits.{and-r}
@@ -26,8 +26,8 @@ use Rattle.journal.proofs.Reading.{length-record}
 use Rattle.journal.proofs.Ends.{formed, back, Ended, ended-room, ended-turn}
 use Rattle.journal.proofs.Places.{row-obeys, row-at, row-inside}
 use Rattle.rows.specs.Scoring.{CandidateStands}
-use Rattle.decoder.specs.Closing.{Pairs, follow}
-use Rattle.closing.specs.Walk.{RowStands, standing, firstRows, Reached, Onward, pathFrom, over, entered, Entry, column}
+use Rattle.decoder.specs.Closing.{follow}
+use Rattle.closing.specs.Walk.{RowStands, standing, firstRows, Reached, pathFrom, over, entered, Entry, column}
 use Rattle.closing.specs.Row.{noRow, rowNumber}
 use Rattle.closing.specs.declared.walk.Back.{Back}
 use Rattle.closing.proofs.Records.{row-candidate}
@@ -83,7 +83,7 @@ latest-is : (r : Row) (rs : List Row) → predecessor (r ∷ rs) ≡ cond (score
 unfolding predecessor
 latest-is r rs = refl
 
-drop-length : {A : Type 0} (l : List A) → drop (length l) l ≡ []
+pub drop-length : {A : Type 0} (l : List A) → drop (length l) l ≡ []
 drop-length l = drop-of-length-le l (le-refl (length l))
 
 -- at most so many
@@ -300,64 +300,3 @@ module _ (s : List ℕ) (b : Back) (h : Reached s b) (left : 0 < b .rows) where
             let is : x ≡ f (length earlier, b .candidate) = rw (over-yes t) at e in
             rw (over-yes t, follow-yes t, again, lt-ltb (b .pairs) (b .pairs + 1) (omega arith), drop-stored buffer to x (omega arith), next, is)
         go false t = rw (over-no t, follow-no t, again, le-ltb (b .pairs) (b .pairs) (omega arith))
-
--- ---- the end of the walk
-
-follow-none : (rs : List Row) → follow rs noParent ≡ []
-unfolding follow
-follow-none [] = refl
-follow-none (r ∷ rs) = refl
-
-module _ (s : List ℕ) (b : Back) where
-  pub path-stops : b .candidate ≡ noParent → pathFrom s b ≡ []
-  path-stops e = ap (follow (firstRows s (b .rows))) e ∙ follow-none (firstRows s (b .rows))
-
-  pub path-ends : b .rows ≡ 0 → pathFrom s b ≡ []
-  unfolding follow
-  path-ends e =
-      let all : length (standing s) - b .rows ≡ length (standing s) = omega arith in
-      rw (all, drop-length (standing s))
-
-  -- pairs still to come: there is a record to go over
-  pub path-onward : Reached s b → 0 < length (pathFrom s b) → Onward s b
-  path-onward h l = record { reached = h; left = some (b .rows) refl; parent = λ (e : b .candidate ≡ noParent). omega (arith, ap length (path-stops e)) }
-    where
-      some : (n : ℕ) → b .rows ≡ n → 0 < b .rows
-      some zero e = absurd (omega (arith, ap length (path-ends e)))
-      some (suc n) e = omega arith
-
--- ---- storing the pairs
-
-entered-length : (b c : Back) (n x : ℕ) (buffer : List ℕ) → length (entered b c n x buffer) ≡ length buffer
-unfolding entered
-entered-length b c n x buffer = go (ltb (b .pairs) (c .pairs))
-  where
-    go : (t : Bool) → length (cond t (set buffer (n - c .pairs) x) buffer) ≡ length buffer
-    go true = length-set buffer (n - c .pairs) x
-    go false = refl
-
--- n pairs, those found so far stored in a buffer from its entry n - 1 down
-pub record Column (s : List ℕ) (n : ℕ) (f : Entry) (whole : List ℕ) (long : ℕ) (b : Back) (buffer : List ℕ) : Type 0 where
-  pub same-length : length buffer ≡ long
-  pub is-stored : column f (pathFrom s b) (n - b .pairs) buffer ≡ whole
-
-pub column-start : (s : List ℕ) (n : ℕ) (f : Entry) (b : Back) (buffer : List ℕ) → b .pairs ≡ 0 → Column s n f (column f (pathFrom s b) n buffer) (length buffer) b buffer
-column-start s n f b buffer e =
-    let all : n - b .pairs ≡ n = omega arith in
-    record { same-length = refl; is-stored = ap (λ (k : ℕ). column f (pathFrom s b) k buffer) all }
-
-module _ {s : List ℕ} {n : ℕ} {f : Entry} {whole : List ℕ} {long : ℕ} {b : Back} {buffer : List ℕ} (c : Column s n f whole long b buffer) where
-  pub column-turn : Onward s b → b .pairs < n → n ≤ long → {r : Back} {x : ℕ} {buffer′ : List ℕ} → r ≡ over (firstRows s (b .rows)) b → x ≡ f (r .rows, b .candidate) → buffer′ ≡ entered b r n x buffer
-      → Column s n f whole long r buffer′
-  column-turn o l room {r} {x} {buffer′} e k q = record {
-    same-length = ap length q ∙ entered-length b r n x buffer ∙ c .same-length;
-    is-stored = rw (q, e) (over-column s b (o .reached) (o .left) (o .parent) f n buffer x (rw e at k) l (omega (arith, c .same-length)) ∙ c .is-stored);
-  }
-
-  pub column-end : b .pairs + length (pathFrom s b) ≡ n → n ≤ b .pairs → buffer ≡ whole
-  unfolding column
-  column-end e l = go (pathFrom s b) (omega arith) (c .is-stored)
-    where
-      go : (w : Pairs) → length w ≡ 0 → reverseAux (map f w) (drop (n - b .pairs) buffer) ≡ whole → buffer ≡ whole
-      go [] z h = let none-left : n - b .pairs ≡ 0 = omega arith in rw none-left at h
-      go (p ∷ w) z h = absurd (omega arith)

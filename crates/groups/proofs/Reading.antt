@@ -15,7 +15,8 @@ use Rattle.journal.specs.declared.record.Candidate.{Candidate}
 use Rattle.rows.specs.Scoring.{CandidateStands}
 use Rattle.closing.specs.declared.walk.Back.{Back}
 use Rattle.closing.specs.Walk.{standing, firstRows, Reached, Onward, pathFrom, over}
-use Rattle.closing.proofs.Steps.{reached-few, over-reached, over-rows, over-inside, over-candidate, over-quiet, over-pair, over-row, path-stops, path-ends}
+use Rattle.closing.proofs.Steps.{reached-few, over-reached, over-rows, over-inside, over-candidate, over-quiet, over-pair, over-row}
+use Rattle.closing.proofs.Storing.{path-stops, path-ends}
 use Rattle.groups.specs.declared.group.NetelementGroup.{NetelementGroup}
 use Rattle.groups.specs.declared.gather.Gathering.{Gathering}
 use Rattle.groups.specs.Groups.{stateOf, stateAt, alone, join, before}

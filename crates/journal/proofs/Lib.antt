@@ -9,6 +9,7 @@ pub mod WellFormed
 pub mod HighHalf
 pub mod Tests
 pub mod Records
+pub mod RecordRead
 pub mod Walk
 pub mod Ends
 pub mod Places

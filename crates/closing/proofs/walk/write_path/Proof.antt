@@ -4,7 +4,8 @@ use mathlib.Core.Path.{_≡_, refl, _∙_}
 use Prim.Native.Nat.{_+_}
 use lib.ListN.{length}
 use Rattle.closing.specs.Walk.{Reached, pathFrom, column, rowOf, candidateOf}
-use Rattle.closing.proofs.Steps.{path-onward, Column, column-start, column-turn, column-end, over-rows, over-reached, over-counts}
+use Rattle.closing.proofs.Steps.{over-rows, over-reached, over-counts}
+use Rattle.closing.proofs.Storing.{path-onward, Column, column-start, column-turn, column-end}
 use Rattle.closing.proofs.walk.write_path.Statement.{statement}
 use Rattle.closing.proofs.walk.write_path.Tie as tie
 

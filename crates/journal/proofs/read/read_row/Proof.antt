@@ -6,7 +6,7 @@ use borrow.Author.Tests.{eq-eqb, ne-eqb, le-leb, lt-leb, not-true, not-false}
 use borrow.Author.Needs.{needs}
 use Rattle.journal.specs.Check.{pick}
 use Rattle.journal.specs.Record.{recordLength}
-use Rattle.journal.proofs.Records.{record-none, record-by}
+use Rattle.journal.proofs.RecordRead.{record-none, record-by}
 use Rattle.journal.proofs.read.read_row.Statement.{statement}
 use Rattle.journal.proofs.read.read_row.Tie as tie
 

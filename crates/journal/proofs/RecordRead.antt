@@ -1,0 +1,126 @@
+-- The fields of the row that is read, by their places, and what the row reader finds. Assumes nothing.
+use Prim.Native.Nat.{ℕ, suc, _+_, _-_, _*_, _/_, _<_}
+use native.Mathlib.Omega.{arith}
+use mathlib.Core.Path.{_≡_, refl, sym, ap, _∙_}
+use mathlib.Core.Bool.{Bool, true, false, _&&_}
+use mathlib.Core.List.{List, [], _∷_}
+use lib.Dec.{leb, eqb}
+use lib.ListN.{length, getD, drop}
+use lib.Seq.{drop-drop}
+use lib.Ieee.{Float}
+use lib.Ieee.Scale.{finite}
+use Rattle.lists.specs.Loops.{any}
+use Rattle.lists.proofs.Loops.{any-same}
+use Rattle.journal.specs.Row.{Cell, Row, noCell, size, cellOf, scoreOf, scores, beforeOf}
+use Rattle.journal.specs.Ranges.{candidateLimit}
+use Rattle.journal.specs.Record.{recordLength, recordOf, floatAt, readCell, readDistance, headCount, headBefore, readRow}
+use Rattle.journal.specs.Journal.{rowOk}
+use Rattle.journal.specs.Check.{pick, wellRead, bodyReads, recordAt}
+use Rattle.journal.specs.declared.read.Record.{Record}
+use Rattle.journal.specs.declared.read.Record.the-variants.{Bad, Whole}
+use Rattle.journal.proofs.Reading.{length-record}
+use Rattle.journal.proofs.Tests.{drop-float}
+use Rattle.journal.proofs.Records.{length-each, getD-each, rowAt, row-is, size-is, number-is, record-test}
+
+-- ---- the fields of the row that is read, by their places
+
+pub row-size : (ws : List ℕ) → size (readRow ws) ≡ headCount (getD ws 0 0)
+unfolding readRow
+row-size ws = length-each readCell 7 (headCount (getD ws 0 0)) (drop 1 ws)
+
+pub row-cell : (ws : List ℕ) (k : ℕ) → k < size (readRow ws) → cellOf (readRow ws) k ≡ readCell (drop (1 + 7 * k) ws)
+unfolding readRow
+row-cell ws k h =
+    let l : k < headCount (getD ws 0 0) = omega (arith, length-each readCell 7 (headCount (getD ws 0 0)) (drop 1 ws)) in
+    getD-each readCell 7 (headCount (getD ws 0 0)) (drop 1 ws) k noCell l ∙ ap readCell (drop-drop (7 * k) 1 ws)
+
+pub row-score : (ws : List ℕ) (k : ℕ) → k < size (readRow ws) → scoreOf (readRow ws) k ≡ floatAt ws (6 + 7 * k)
+row-score ws k h =
+    let plus : 1 + 7 * k + 5 ≡ 6 + 7 * k = omega arith in
+    ap (λ (c : Cell). c .score) (row-cell ws k h) ∙ drop-float (1 + 7 * k) 5 ws ∙ ap (floatAt ws) plus
+
+pub row-distance : (ws : List ℕ) (d : Float) (k : ℕ) → k < size (readRow ws) * readRow ws .before → getD (readRow ws .distances) k d ≡ floatAt ws (2 + 7 * size (readRow ws) + 2 * k)
+unfolding readRow
+row-distance ws d k h =
+    let c = headCount (getD ws 0 0) in
+    let p = headBefore (getD ws 0 0) in
+    let l : k < c * p = rw (row-size ws) at h in
+    let place : 1 + 7 * c + 1 + 2 * k + 0 ≡ 2 + 7 * size (readRow ws) + 2 * k = omega (arith, row-size ws) in
+    getD-each readDistance 2 (c * p) (drop 1 (drop (7 * c) (drop 1 ws))) k d l
+    ∙ ap readDistance (
+    ap (λ (xs : List ℕ). drop (2 * k) (drop 1 xs)) (drop-drop (7 * c) 1 ws)
+    ∙ ap (drop (2 * k)) (drop-drop 1 (1 + 7 * c) ws)
+    ∙ drop-drop (2 * k) (1 + 7 * c + 1) ws)
+    ∙ drop-float (1 + 7 * c + 1 + 2 * k) 0 ws
+    ∙ ap (floatAt ws) place
+
+-- ---- what the row reader finds
+
+pick-and : {A : Type 0} (a b : Bool) (x y : A) → pick (a && b) x y ≡ pick a (pick b x y) y
+unfolding pick
+pick-and true b x y = refl
+pick-and false b x y = refl
+
+pub record-none : (q n : ℕ) (ws : List ℕ) → length ws ≡ 0 → recordAt q n ws ≡ Bad
+record-none q n [] e = unfold recordAt wellRead recordOf pick in refl
+record-none q n (w ∷ ws) e = absurd (omega arith)
+
+-- its scores
+scores-at : (w : ℕ) (body : List ℕ) → scores (rowAt w body) ≡ any (headCount w) (λ k. finite (floatAt (w ∷ body) (6 + 7 * k)))
+unfolding scores readRow
+scores-at w body =
+    ap (λ (m : ℕ). any m (λ i. finite (scoreOf (rowAt w body) i))) (size-is w body)
+    ∙ any-same (headCount w) (λ i. finite (scoreOf (rowAt w body) i)) (λ k. finite (floatAt (w ∷ body) (6 + 7 * k)))
+    (λ k h. ap finite (row-score (w ∷ body) k (omega (arith, size-is w body))))
+
+length-at : (w : ℕ) (body : List ℕ) → length (recordOf (rowAt w body)) ≡ recordLength (headCount w) (headBefore w)
+length-at w body =
+    length-record (rowAt w body) (number-is w body ∙ ap (λ (k : ℕ). k * headBefore w) (sym (size-is w body)))
+    ∙ ap (λ (k : ℕ). recordLength k (headBefore w)) (size-is w body)
+
+abbrev pub found : ℕ → ℕ → List ℕ → Record
+found c p ws = Whole (recordLength c p) c (any c (λ k. finite (floatAt ws (6 + 7 * k))))
+
+found-at : (w : ℕ) (body : List ℕ) → Whole (length (recordOf (rowAt w body))) (size (rowAt w body)) (scores (rowAt w body)) ≡ found (headCount w) (headBefore w) (w ∷ body)
+found-at w body = cc (length-at w body, size-is w body, scores-at w body)
+
+-- test by test
+pub record-at : (q n : ℕ) (ws : List ℕ) → 0 < length ws
+    → recordAt q n ws
+    ≡ pick (eqb (getD ws 0 0 / 1024) 262144)
+    (pick (leb (headCount (getD ws 0 0)) candidateLimit)
+    (pick (eqb (headBefore (getD ws 0 0)) (beforeOf q (headCount (getD ws 0 0))))
+    (pick (leb (recordLength (headCount (getD ws 0 0)) (headBefore (getD ws 0 0))) (length ws))
+    (pick (bodyReads (headCount (getD ws 0 0)) (headBefore (getD ws 0 0)) n ws) (found (headCount (getD ws 0 0)) (headBefore (getD ws 0 0)) ws) Bad)
+    Bad)
+    Bad)
+    Bad)
+    Bad
+record-at q n [] h = absurd (omega arith)
+record-at q n (w ∷ body) h =
+    let c = headCount w in
+    let p = headBefore w in
+    let r = found c p (w ∷ body) in
+    let b3 = leb (recordLength c p) (suc (length body)) in
+    let b4 = bodyReads c p n (w ∷ body) in
+    let whole : recordAt q n (w ∷ body) ≡ pick (wellRead recordOf readRow (rowOk q n) (w ∷ body)) (Whole (length (recordOf (readRow (w ∷ body)))) (size (readRow (w ∷ body))) (scores (readRow (w ∷ body)))) Bad = unfold recordAt in refl in
+    whole
+    ∙ ap (λ (x : Row). pick (wellRead recordOf readRow (rowOk q n) (w ∷ body)) (Whole (length (recordOf x)) (size x) (scores x)) Bad) (row-is w body)
+    ∙ ap (λ (x : Record). pick (wellRead recordOf readRow (rowOk q n) (w ∷ body)) x Bad) (found-at w body)
+    ∙ ap (λ (b : Bool). pick b r Bad) (record-test q n w body)
+    ∙ pick-and (eqb (w / 1024) 262144) (leb c candidateLimit && (eqb p (beforeOf q c) && (b3 && b4))) r Bad
+    ∙ ap (λ (x : Record). pick (eqb (w / 1024) 262144) x Bad)
+    (pick-and (leb c candidateLimit) (eqb p (beforeOf q c) && (b3 && b4)) r Bad
+    ∙ ap (λ (x : Record). pick (leb c candidateLimit) x Bad)
+    (pick-and (eqb p (beforeOf q c)) (b3 && b4) r Bad
+    ∙ ap (λ (x : Record). pick (eqb p (beforeOf q c)) x Bad) (pick-and b3 b4 r Bad)))
+
+-- by what each test gives
+pub record-by : (q n : ℕ) (ws : List ℕ) (a b d e f : Bool) → 0 < length ws
+    → eqb (getD ws 0 0 / 1024) 262144 ≡ a
+    → leb (headCount (getD ws 0 0)) candidateLimit ≡ b
+    → eqb (headBefore (getD ws 0 0)) (beforeOf q (headCount (getD ws 0 0))) ≡ d
+    → leb (recordLength (headCount (getD ws 0 0)) (headBefore (getD ws 0 0))) (length ws) ≡ e
+    → bodyReads (headCount (getD ws 0 0)) (headBefore (getD ws 0 0)) n ws ≡ f
+    → pick a (pick b (pick d (pick e (pick f (found (headCount (getD ws 0 0)) (headBefore (getD ws 0 0)) ws) Bad) Bad) Bad) Bad) Bad ≡ recordAt q n ws
+record-by q n ws a b d e f h i j k l m = sym (record-at q n ws h ∙ rw (i, j, k, l, m))
