@@ -60,7 +60,7 @@ unfoldable pub recordOf : Row → List ℕ
 recordOf r =
     headWord (size r) (r .before) ∷ (flat cellWords (r .cells) ++ (distancesWords (r .distances) ++ (lengthWord (recordLength (size r) (r .before)) ∷ [])))
 
--- what is asked of a row that is to be written: at most 16 candidates, as many predecessor candidates, and each field within its bits
+-- what is asked of a row that is to be written: at most 16 candidates and 16 predecessor candidates, a distance for each pair, each field in its bits
 pub record CellNarrow (c : Cell) : Type 0 where
   pub element : c .candidate .element < elementLimit
   pub near : c .candidate .near < 2

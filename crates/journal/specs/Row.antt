@@ -64,11 +64,11 @@ scoreOf r i = cellOf r i .score
 abbrev pub fixOf : Row → Fix
 fixOf r = record { candidates = map (λ (c : Cell). c .candidate) (r .cells); distances = r .distances }
 
--- candidates with parents and scores, which a list each has
+-- candidates with their parents and scores, a list of each
 unfoldable pub cellsOf : List Candidate → List ℕ → List Float → List Cell
 cellsOf cs parents scores = number (λ i c. record { candidate = c; parent = getD parents i 0; score = getD scores i nan }) 0 cs
 
--- a fix with those and p predecessor candidates
+-- the row of a fix with these parents, scores and p predecessor candidates
 abbrev pub rowOf : Fix → List ℕ → List Float → ℕ → Row
 rowOf f parents scores p = record { cells = cellsOf (f .candidates) parents scores; before = p; distances = f .distances }
 
