@@ -1,8 +1,8 @@
 //! compare CASES ONE OTHER [strict]: compares two answers to a case text, and counts.
 //!
 //! Everything is compared as text, which is in bits. Only where more than one walk has the least cost may two routes differ, if both are
-//! walks of that cost; and then the segments whose bridges rest on such routes, and what comes of collapsing them. `strict` allows
-//! neither. An answer that says `unasked` is passed over.
+//! walks of that cost, or one is and the other is longer than a buffer that was cut short; and then the segments whose bridges rest on such
+//! routes, and what comes of collapsing them. `strict` allows neither. An answer that says `unasked` is passed over.
 
 use differential::document::Document;
 use differential::language::{Command, Network, Side, Words};
@@ -75,14 +75,20 @@ impl Comparison<'_> {
         }
     }
 
-    /// Whether two different routes are both walks of one cost, of which there are several.
+    /// Whether two different answers are walks of the least cost, of which there are several. They may differ in length: where the buffer is
+    /// short, the longer one is refused.
     fn other_walk(&mut self, from: Side, to: Side, one: &[&str], other: &[&str]) -> bool {
-        let (Some(one), Some(other)) = (route_of(one), route_of(other)) else {
+        let routes = &mut self.session.core.routes;
+        let Some(least) = routes.cost(from, to) else {
             return false;
         };
-        let routes = &mut self.session.core.routes;
-        let legal = routes.is_walk(from, to, &one) && routes.is_walk(from, to, &other);
-        legal && one.cost.to_bits() == other.cost.to_bits() && !routes.is_single(from, to)
+        let (one_route, other_route) = (route_of(one), route_of(other));
+        let fair = |block: &[&str], route: &Option<Route>| match route {
+            Some(route) => route.cost.to_bits() == least.to_bits() && routes.is_walk(from, to, route),
+            None => block == ["route refused 15"],
+        };
+        let both_fair = fair(one, &one_route) && fair(other, &other_route);
+        both_fair && (one_route.is_some() || other_route.is_some()) && !routes.is_single(from, to)
     }
 
     fn route(&mut self, case: &str, from: Side, to: Side) {
