@@ -4,6 +4,7 @@
 #include "box.h"
 
 #include <math.h>
+#include <stddef.h>
 #include <stdio.h>
 #include <string.h>
 
@@ -121,6 +122,24 @@ static uint32_t triple(void) { return box_triple_is_consistent(BOX_NETWORK(netwo
         REFUSED(spoilt, build_into(ROOM), number); \
     } while (0)
 
+/* Padding that is not zero in every segment, and these bits as the start of one of them. */
+static void mark(size_t segment, uint64_t bits) {
+    const size_t padding = sizeof(uint32_t), after = offsetof(struct box_segment, start_intrinsic);
+    for (size_t i = 0; i < ROOM; i++) memset((char *)&lent.segments[i] + padding, 0xA5, after - padding);
+    memcpy(&lent.segments[segment].start_intrinsic, &bits, sizeof bits);
+}
+
+/* A refused collapse stores nothing: a store into these lists would end the program. */
+static void constant_lists(void) {
+    static const struct box_segment wrong[3] = {{0, 0, 1, 0, 4}, {1, 0, 1, 5, 6}, {0, NAN, 1, 7, 9}};
+    static const struct box_segment sound[3] = {{0, 0, 1, 0, 4}, {1, 0, 1, 5, 6}, {0, 0, 1, 7, 9}};
+    start();
+    expect("a constant list", box_remove_oscillations((struct box_segment *)wrong, 3, lent.decisions, 18, &lent.count,
+        &lent.second), BOX_REFUSED_SEGMENT);
+    expect("a constant list", box_remove_oscillations((struct box_segment *)sound, 3, lent.decisions, 17, &lent.count,
+        &lent.second), BOX_REFUSED_BUFFER);
+}
+
 static void refusals(void) {
     REFUSED_NETWORK(network.elements = MOST_ELEMENTS, BOX_REFUSED_COUNTS);
     REFUSED_NETWORK(lengths[1] = -1, BOX_REFUSED_LENGTH);
@@ -147,6 +166,11 @@ static void refusals(void) {
     REFUSED(AS_IT_IS, list_steps(0, 8), BOX_REFUSED_ROW);
     REFUSED(lent.segments[0].first_row = 1, collapse(1, 6), BOX_REFUSED_SEGMENT);
     REFUSED(lent.segments[0].end_intrinsic = 1.5, collapse(1, 6), BOX_REFUSED_SEGMENT);
+    REFUSED(mark(0, 0x7FF0000000ABCDEF), collapse(4, 24), BOX_REFUSED_SEGMENT);
+    REFUSED(mark(3, 0x7FF0000000ABCDEF), collapse(4, 24), BOX_REFUSED_SEGMENT);
+    REFUSED(mark(3, 0x7FF8000000001234), collapse(4, 23), BOX_REFUSED_SEGMENT);
+    REFUSED(mark(3, 0x8000000000000000), collapse(4, 23), BOX_REFUSED_BUFFER);
+    REFUSED(mark(4, 0x7FF0000000ABCDEF), collapse(4, 23), BOX_REFUSED_BUFFER);
     REFUSED(AS_IT_IS, collapse(1, 5), BOX_REFUSED_BUFFER);
     REFUSED(AS_IT_IS, route_into(2, 5), BOX_REFUSED_BUFFER);
     REFUSED(feed(1, 0), close_into(0), BOX_REFUSED_BUFFER);
@@ -156,6 +180,7 @@ static void refusals(void) {
     REFUSED(AS_IT_IS, distance(3, 0), BOX_NONE);
     REFUSED(AS_IT_IS, route_into(3, 8), BOX_NONE);
     REFUSED(AS_IT_IS, close_into(8), BOX_NONE);
+    constant_lists();
 }
 
 /* ---- limits */
