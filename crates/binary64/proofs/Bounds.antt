@@ -13,7 +13,7 @@ use lib.Ieee.Fits.{down-pos}
 use lib.Ieee.Exact.{HasValue, round-exact}
 use lib.Ieee.Back.{round-whole}
 use lib.Ieee.Scale.{finite, round-same}
-use Rattle.binary64.specs.Values.{clear, whole}
+use Rattle.binary64.specs.Values.{clear, ofWhole}
 use Rattle.binary64.proofs.Sum.{finite-sum-number, add-mono}
 
 -- ---- the sum of two values of one sign, by the fractions that they equal
@@ -60,8 +60,8 @@ lower f x w X W s a b n p q h k =
     (add-mono f X x W w (finite-sum-number f X W (value-finite X s a 1 p) (value-finite W s b 1 q)) n h k)
 
 -- ---- whole numbers that the format holds
-pub whole-finite : (f : Format) (s : Bool) (n : ℕ) → n ≤ 2 ^ prec f → T (finite (whole f s n))
-whole-finite f s n h = value-finite (whole f s n) s n 1 (round-whole f s n h)
+pub whole-finite : (f : Format) (s : Bool) (n : ℕ) → n ≤ 2 ^ prec f → T (finite (ofWhole f s n))
+whole-finite f s n h = value-finite (ofWhole f s n) s n 1 (round-whole f s n h)
 
 left-part : (a b P : ℕ) → a + b ≤ P → a ≤ P
 left-part a b P h = omega arith
@@ -69,20 +69,20 @@ left-part a b P h = omega arith
 right-part : (a b P : ℕ) → a + b ≤ P → b ≤ P
 right-part a b P h = omega arith
 
-pub upper-whole : (f : Format) (x w : Float) (s : Bool) (a b : ℕ) → a + b ≤ 2 ^ prec f → T (not (isNan (add f x w))) → T (le x (whole f s a)) → T (le w (whole f s b)) → T (le (add f x w) (whole f s (a + b)))
+pub upper-whole : (f : Format) (x w : Float) (s : Bool) (a b : ℕ) → a + b ≤ 2 ^ prec f → T (not (isNan (add f x w))) → T (le x (ofWhole f s a)) → T (le w (ofWhole f s b)) → T (le (add f x w) (ofWhole f s (a + b)))
 upper-whole f x w s a b r n h k =
-    upper f x w (whole f s a) (whole f s b) s a b n (round-whole f s a (left-part a b (2 ^ prec f) r)) (round-whole f s b (right-part a b (2 ^ prec f) r)) h k
+    upper f x w (ofWhole f s a) (ofWhole f s b) s a b n (round-whole f s a (left-part a b (2 ^ prec f) r)) (round-whole f s b (right-part a b (2 ^ prec f) r)) h k
 
-pub lower-whole : (f : Format) (x w : Float) (s : Bool) (a b : ℕ) → a + b ≤ 2 ^ prec f → T (not (isNan (add f x w))) → T (le (whole f s a) x) → T (le (whole f s b) w) → T (le (whole f s (a + b)) (add f x w))
+pub lower-whole : (f : Format) (x w : Float) (s : Bool) (a b : ℕ) → a + b ≤ 2 ^ prec f → T (not (isNan (add f x w))) → T (le (ofWhole f s a) x) → T (le (ofWhole f s b) w) → T (le (ofWhole f s (a + b)) (add f x w))
 lower-whole f x w s a b r n h k =
-    lower f x w (whole f s a) (whole f s b) s a b n (round-whole f s a (left-part a b (2 ^ prec f) r)) (round-whole f s b (right-part a b (2 ^ prec f) r)) h k
+    lower f x w (ofWhole f s a) (ofWhole f s b) s a b n (round-whole f s a (left-part a b (2 ^ prec f) r)) (round-whole f s b (right-part a b (2 ^ prec f) r)) h k
 
 -- `ofInt` of a number that is not negative
-pub whole-is : (f : Format) (n : ℕ) → ofInt f (pos n) ≡ whole f false n
+pub whole-is : (f : Format) (n : ℕ) → ofInt f (pos n) ≡ ofWhole f false n
 unfolding ofInt
 whole-is f n = refl
 
-pub scaled : (f : Format) (s : Bool) (q j : ℕ) → q < 2 ^ prec f → q * 2 ^ j < 2 ^ suc (emax f) → HasValue (whole f s (q * 2 ^ j)) s (q * 2 ^ j) 1
+pub scaled : (f : Format) (s : Bool) (q j : ℕ) → q < 2 ^ prec f → q * 2 ^ j < 2 ^ suc (emax f) → HasValue (ofWhole f s (q * 2 ^ j)) s (q * 2 ^ j) 1
 scaled f s q j h k =
     let l = low f in
     let same : q * 2 ^ j * 2 ^ l ≡ q * 2 ^ (j + l) * 1 = mul-assoc q (2 ^ j) (2 ^ l) ∙ ap (λ (x : ℕ). q * x) (sym (pow-add 2 j l)) ∙ sym (mul-one (q * 2 ^ (j + l))) in

@@ -7,7 +7,8 @@ use native.Mathlib.Omega.{arith}
 use mathlib.Core.Bool.{true, false, not}
 use lib.Dec.{T, T-not}
 use lib.Ieee.{Float, nan, inf, fin, Format, up, down, sum, add, le, fits, isNan}
-use Rattle.binary64.specs.Values.{clear, sign, isZero, pzero, nzero}
+use Rattle.binary64.specs.Values.{clear, pzero}
+use Rattle.binary64.specs.inner.Values.{sign, isZero, nzero}
 use Rattle.binary64.proofs.Order.{same-test, cross→le, le-trans}
 use Rattle.binary64.proofs.Sum.{clear-number, round-clear, finite-sum-number, add-mono, add-mono-left, add-mono-right}
 use Rattle.binary64.proofs.Same.{le-antisym, add-nzero, add-pzero}

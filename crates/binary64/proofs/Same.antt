@@ -12,7 +12,8 @@ use lib.Ieee.{Float, nan, inf, fin, Format, prec, emax, low, up, down, round, su
 use lib.Ieee.Fits.{up-pos, down-pos, and-l, and-r, eq→eqb, round-fits}
 use lib.Ieee.Digits.{back}
 use lib.Ieee.Exact.{HasValue, round-exact}
-use Rattle.binary64.specs.Values.{sign, isZero, pzero, nzero}
+use Rattle.binary64.specs.Values.{pzero}
+use Rattle.binary64.specs.inner.Values.{sign, isZero, nzero}
 use Rattle.binary64.proofs.Order.{le→cross}
 use Rattle.binary64.proofs.Sum.{round-zero}
 

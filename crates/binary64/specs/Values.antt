@@ -1,7 +1,6 @@
 -- Kinds of float values, of either format.
 use Prim.Native.Nat.{ℕ}
-use mathlib.Core.Bool.{Bool, true, false, not}
-use lib.Dec.{eqb}
+use mathlib.Core.Bool.{Bool, false, not}
 use lib.IntN.{pos}
 use lib.Ieee.{Float, nan, inf, fin, Format, round}
 
@@ -10,17 +9,6 @@ abbrev pub clear : Float → Bool
 clear nan = false
 clear (inf s) = not s
 clear (fin s m e) = not s
-
-abbrev pub sign : Float → Bool
-sign nan = false
-sign (inf s) = s
-sign (fin s m e) = s
-
--- a zero of either sign
-abbrev pub isZero : Float → Bool
-isZero nan = false
-isZero (inf s) = false
-isZero (fin s m e) = eqb m 0
 
 abbrev pub isMinusInfinity : Float → Bool
 isMinusInfinity nan = false
@@ -31,9 +19,6 @@ isMinusInfinity (fin s m e) = false
 abbrev pub pzero : Float
 pzero = fin false 0 (pos 0)
 
-abbrev pub nzero : Float
-nzero = fin true 0 (pos 0)
-
 -- the whole number n with the sign s, rounded to the format
-abbrev pub whole : Format → Bool → ℕ → Float
-whole f s n = round f s n 1
+abbrev pub ofWhole : Format → Bool → ℕ → Float
+ofWhole f s n = round f s n 1

@@ -6,7 +6,7 @@ use lib.Ieee.{Float, le}
 use lib.Ieee.Scale.{finite}
 use Rattle.binary64.specs.Values.{pzero}
 use Rattle.binary64.proofs.Order.{same-test, le-left}
-use Rattle.journal.specs.Row.{Row, size, scoreOf, scores}
+use Rattle.journal.specs.Row.{Row, rowSize, scoreOf, scores}
 use Rattle.rows.specs.Row.{bestOf}
 use Rattle.decoder.proofs.Best.{lastBest-all, lastBest-at, lastBest-greatest}
 use Rattle.decoder.proofs.Bound.{between}
@@ -18,14 +18,14 @@ module _ (r : Row) (low : (i : ℕ) → T (le (scoreOf r i) pzero)) where
   best-finite t =
       let s = scores-elim r t in
       between (scoreOf r (s .0)) (bestOf r .1) (s .2)
-      (lastBest-greatest (scoreOf r) (λ i. le-left (scoreOf r i) pzero (low i)) (size r) (s .0) (s .1))
-      (lastBest-all (λ (x : Float). T (le x pzero)) (unfold le in tt) (scoreOf r) low (size r))
+      (lastBest-greatest (scoreOf r) (λ i. le-left (scoreOf r i) pzero (low i)) (rowSize r) (s .0) (s .1))
+      (lastBest-all (λ (x : Float). T (le x pzero)) (unfold le in tt) (scoreOf r) low (rowSize r))
 
-  pub best-below : T (scores r) → bestOf r .0 < size r
-  best-below t = lastBest-at (scoreOf r) (size r) (best-finite t) .0
+  pub best-below : T (scores r) → bestOf r .0 < rowSize r
+  best-below t = lastBest-at (scoreOf r) (rowSize r) (best-finite t) .0
 
   pub scores-best : finite (bestOf r .1) ≡ scores r
   scores-best = same-test (finite (bestOf r .1)) (scores r) there best-finite
     where
       there : T (finite (bestOf r .1)) → T (scores r)
-      there t = scores-intro r (bestOf r .0) (subst (λ (x : Float). T (finite x)) (sym (lastBest-at (scoreOf r) (size r) t .1)) t)
+      there t = scores-intro r (bestOf r .0) (subst (λ (x : Float). T (finite x)) (sym (lastBest-at (scoreOf r) (rowSize r) t .1)) t)

@@ -8,10 +8,11 @@ use mathlib.Core.List.{List, [], _∷_, _++_, append-assoc}
 use lib.ListN.{length, getD, take, drop, set}
 use lib.Seq.{take-length, take-suc, drop-cons, set-at, length-take-le}
 use Rattle.lists.specs.Loops.{upTo}
-use Rattle.closing.specs.Buffer.{entries, listed}
+use Rattle.closing.specs.inner.Buffer.{entriesStored}
+use Rattle.closing.specs.Buffer.{storedFirst}
 
 module _ {A : Type 0} (d : A) (xs buffer : List A) (g : ℕ → A) where
-  entries-are : (n : ℕ) → n ≤ length xs → n ≤ length buffer → ((k : ℕ) → k < n → g k ≡ getD xs k d) → entries n g buffer ≡ take n xs ++ drop n buffer
+  entries-are : (n : ℕ) → n ≤ length xs → n ≤ length buffer → ((k : ℕ) → k < n → g k ≡ getD xs k d) → entriesStored n g buffer ≡ take n xs ++ drop n buffer
   unfolding upTo
   entries-are zero l m h = refl
   entries-are (suc n) l m h =
@@ -21,7 +22,7 @@ module _ {A : Type 0} (d : A) (xs buffer : List A) (g : ℕ → A) where
       ∙ sym (append-assoc (take n xs) (getD xs n d ∷ []) (drop (suc n) buffer))
       ∙ ap (λ (b : List A). b ++ drop (suc n) buffer) (sym (take-suc xs n d l))
 
-  pub entries-listed : {n : ℕ} → n ≡ length xs → n ≤ length buffer → ((k : ℕ) → k < n → g k ≡ getD xs k d) → entries n g buffer ≡ listed xs buffer
+  pub entries-listed : {n : ℕ} → n ≡ length xs → n ≤ length buffer → ((k : ℕ) → k < n → g k ≡ getD xs k d) → entriesStored n g buffer ≡ storedFirst xs buffer
   entries-listed {n} e m h =
       let l : n ≤ length xs = omega arith in
       entries-are n l m h ∙ rw (e, take-length xs)

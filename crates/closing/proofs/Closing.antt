@@ -10,11 +10,11 @@ use lib.Dec.{T, leb}
 use lib.ListN.{length, drop, length-drop, length-reverse}
 use Rattle.lists.proofs.Lists.{map-back}
 use Rattle.binary64.proofs.Order.{taken}
-use Rattle.journal.specs.Row.{Row, size, scores, predecessor}
+use Rattle.journal.specs.Row.{Row, rowSize, scores, predecessor}
 use Rattle.journal.specs.Record.{recordOf, readRow}
 use Rattle.journal.specs.Journal.{used, readJournal}
 use Rattle.journal.specs.WellFormed.{Obey}
-use Rattle.journal.specs.Check.{latestOf, survey}
+use Rattle.journal.specs.inner.Check.{latestOf, survey}
 use Rattle.journal.specs.declared.check.Predecessor.{Predecessor}
 use Rattle.journal.specs.declared.check.Predecessor.the-variants.{Nothing, At}
 use Rattle.journal.specs.declared.check.Survey.the-variants.{NotWellFormed, WellFormed}
@@ -23,12 +23,12 @@ use Rattle.journal.proofs.WellFormed.{used-well}
 use Rattle.journal.proofs.Ends.{formed, Surveyed, survey-rows, survey-no}
 use Rattle.journal.proofs.Places.{row-obeys, row-at, row-inside, Latest, latest-some, latest-none}
 use Rattle.rows.specs.Row.{bestOf}
-use Rattle.rows.specs.Scoring.{RecordStands, previousOf}
+use Rattle.rows.specs.inner.Scoring.{RecordStands, previousOf}
 use Rattle.rows.specs.declared.previous.Previous.{Previous}
 use Rattle.decoder.specs.Closing.{Pairs, Closed, nothing, path, closing}
 use Rattle.decoder.specs.Call.{gave, refused, pathLength, closeRead, closingOn}
-use Rattle.closing.specs.Walk.{rowsRead, standing, firstRows, Reached, pathFrom, Entry, rowOf, candidateOf, column}
-use Rattle.closing.specs.Close.{answered, stored, Scoring}
+use Rattle.closing.specs.inner.Walk.{rowsRead, rowsIn, firstRows, Reached, pathFrom, column, Scoring}
+use Rattle.closing.specs.Close.{PairField, pairRow, pairCandidate, closeAnswer, closeStored}
 use Rattle.closing.specs.declared.walk.Back.{Back}
 use Rattle.closing.specs.declared.close.Closing.the-variants.{Path}
 use Rattle.closing.proofs.Best.{best-below}
@@ -39,7 +39,7 @@ use Rattle.closing.proofs.Steps.{obey-low, obey-room, first-all}
 length-order : (w : Pairs) (n : ℕ) → n ≡ 0 + length w → n ≡ length (reverse w)
 length-order w n e = omega (arith, length-reverse w)
 
-column-order : (f : Entry) (w : Pairs) (n : ℕ) (buffer : List ℕ) → n ≡ 0 + length w → column f w n buffer ≡ map f (reverse w) ++ drop (length (reverse w)) buffer
+column-order : (f : PairField) (w : Pairs) (n : ℕ) (buffer : List ℕ) → n ≡ 0 + length w → column f w n buffer ≡ map f (reverse w) ++ drop (length (reverse w)) buffer
 unfolding column
 column-order f w n buffer e =
     reverseAux-eq (map f w) (drop n buffer)
@@ -82,34 +82,34 @@ module _ (s : List ℕ) (rows used place count : ℕ) (h : Scoring s rows used p
   surveyed : Surveyed s rows used (At place (h .row) count)
   surveyed = survey-rows s rows used (At place (h .row) count) (h .found)
 
-  same : standing s ≡ surveyed .rows
+  same : rowsIn s ≡ surveyed .rows
   same = ap rowsRead (surveyed .reads)
 
-  reads : readJournal s ≡ some (standing s)
+  reads : readJournal s ≡ some (rowsIn s)
   reads = surveyed .reads ∙ ap some (sym same)
 
-  last : Latest (standing s) place (h .row) count
-  last = latest-some (standing s) place (h .row) count (ap latestOf same ∙ surveyed .latest)
+  last : Latest (rowsIn s) place (h .row) count
+  last = latest-some (rowsIn s) place (h .row) count (ap latestOf same ∙ surveyed .latest)
 
   obeys : Obey (last .latest ∷ last .earlier)
-  obeys = row-obeys s (standing s) reads (last .after) (last .latest) (last .earlier) (last .stands)
+  obeys = row-obeys s (rowsIn s) reads (last .after) (last .latest) (last .earlier) (last .stands)
 
   long : place + length (recordOf (last .latest)) ≤ length s
-  long = omega (arith, last .placed, row-inside s (standing s) reads (last .after) (last .latest) (last .earlier) (last .stands))
+  long = omega (arith, last .placed, row-inside s (rowsIn s) reads (last .after) (last .latest) (last .earlier) (last .stands))
 
   pub last-inside : place ≤ length s
   last-inside = omega (arith, long)
 
   last-row : readRow (drop place s) ≡ last .latest
-  last-row = ap (λ (k : ℕ). readRow (drop k s)) (last .placed) ∙ row-at s (standing s) reads (last .after) (last .latest) (last .earlier) (last .stands)
+  last-row = ap (λ (k : ℕ). readRow (drop k s)) (last .placed) ∙ row-at s (rowsIn s) reads (last .after) (last .latest) (last .earlier) (last .stands)
 
   pub last-stands : RecordStands (drop place s) count
   last-stands = record {
-    many = ap size last-row ∙ sym (last .many);
+    many = ap rowSize last-row ∙ sym (last .many);
     room = rw (length-drop place s) (omega (arith, long, last .many, obey-room (last .latest) (last .earlier) obeys));
   }
 
-  all-rows : firstRows s rows ≡ standing s
+  all-rows : firstRows s rows ≡ rowsIn s
   all-rows = ap (firstRows s) (sym (surveyed .counted) ∙ ap length (sym same)) ∙ first-all s
 
   module _ {best : Previous} (e : best ≡ previousOf (bestOf (readRow (drop place s)))) where
@@ -120,11 +120,11 @@ module _ (s : List ℕ) (rows used place count : ℕ) (h : Scoring s rows used p
     begin-reached = record {
       reads = reads;
       within = omega (arith, surveyed .counted, ap length same);
-      placed = rw all-rows (sym (surveyed .ends) ∙ used-well s (standing s) (formed s (standing s) reads));
-      enters = λ _. rw (all-rows, last .is, is-best) (best-below (last .latest) (obey-low (last .latest) (last .earlier) obeys) (latest-scores (standing s) (last .latest) (last .is)));
+      placed = rw all-rows (sym (surveyed .ends) ∙ used-well s (rowsIn s) (formed s (rowsIn s) reads));
+      enters = λ _. rw (all-rows, last .is, is-best) (best-below (last .latest) (obey-low (last .latest) (last .earlier) obeys) (latest-scores (rowsIn s) (last .latest) (last .is)));
     }
 
-    pub closing-is : closing (standing s) ≡ path (reverse (pathFrom s (begin rows used best))) (best .score)
+    pub closing-is : closing (rowsIn s) ≡ path (reverse (pathFrom s (begin rows used best))) (best .score)
     unfolding closing
     closing-is = rw (last .is, all-rows, is-best)
 
@@ -145,13 +145,13 @@ module _ (s : List ℕ) (rows used place count : ℕ) (h : Scoring s rows used p
             let fewer : length (reverse (pathFrom s (begin rows used best))) ≤ room = rw length-reverse (omega arith) in
             closed-by room ∙ rw (le-leb _ _ fewer)
 
-        closed-stored : (f : Entry) (buffer : List ℕ) {buffer′ : List ℕ} → buffer′ ≡ column f (pathFrom s (begin rows used best)) n buffer → buffer′ ≡ stored f (closingOn s room) buffer
-        unfolding stored
+        closed-stored : (f : PairField) (buffer : List ℕ) {buffer′ : List ℕ} → buffer′ ≡ column f (pathFrom s (begin rows used best)) n buffer → buffer′ ≡ closeStored f (closingOn s room) buffer
+        unfolding closeStored
         closed-stored f buffer k = rw closed-done (k ∙ column-order f (pathFrom s (begin rows used best)) n buffer q)
 
-        pub closed-path : (a b : List ℕ) {a′ b′ : List ℕ} → a′ ≡ column rowOf (pathFrom s (begin rows used best)) n a → b′ ≡ column candidateOf (pathFrom s (begin rows used best)) n b
-            → (Path (best .score) n ≡ answered (closingOn s room)) × ((a′ ≡ stored rowOf (closingOn s room) a) × (b′ ≡ stored candidateOf (closingOn s room) b))
-        unfolding answered
+        pub closed-path : (a b : List ℕ) {a′ b′ : List ℕ} → a′ ≡ column pairRow (pathFrom s (begin rows used best)) n a → b′ ≡ column pairCandidate (pathFrom s (begin rows used best)) n b
+            → (Path (best .score) n ≡ closeAnswer (closingOn s room)) × ((a′ ≡ closeStored pairRow (closingOn s room) a) × (b′ ≡ closeStored pairCandidate (closingOn s room) b))
+        unfolding closeAnswer
         closed-path a b k m =
-            let answer : Path (best .score) n ≡ answered (closingOn s room) = rw closed-done (ap (Path (best .score)) (length-order (pathFrom s (begin rows used best)) n q)) in
-            (answer, (closed-stored rowOf a k, closed-stored candidateOf b m))
+            let answer : Path (best .score) n ≡ closeAnswer (closingOn s room) = rw closed-done (ap (Path (best .score)) (length-order (pathFrom s (begin rows used best)) n q)) in
+            (answer, (closed-stored pairRow a k, closed-stored pairCandidate b m))

@@ -8,11 +8,11 @@ use borrow.Author.Tests.{le-leb, lt-leb, lt-ltb, le-ltb}
 use lib.ListN.{length, getD, drop, length-map, List·getD-map, length-drop}
 use lib.Seq.{drop-cons}
 use lib.Ieee.{Float, nan}
-use Rattle.journal.specs.Row.{Cell, noCell, size, cellOf}
+use Rattle.journal.specs.Row.{Cell, noCell, rowSize, cellOf}
 use Rattle.journal.specs.Record.{floatAt, readDistance, recordLength, readRow}
 use Rattle.journal.specs.Journal.{words}
-use Rattle.journal.specs.Call.{Standing, endRead, endOf}
-use Rattle.journal.specs.Check.{survey}
+use Rattle.journal.specs.inner.Strike.{RowsAtLeast, endRead, endOf}
+use Rattle.journal.specs.inner.Check.{survey}
 use Rattle.journal.specs.declared.check.Predecessor.{Predecessor}
 use Rattle.journal.specs.declared.check.Survey.the-variants.{NotWellFormed, WellFormed}
 use Rattle.journal.specs.WellFormed.{Obey}
@@ -22,20 +22,21 @@ use Rattle.journal.proofs.RecordRead.{row-size, row-cell, row-distance}
 use Rattle.journal.proofs.Reading.{length-record}
 use Rattle.journal.proofs.Ends.{Surveyed, survey-rows, survey-no, struck-stand}
 use Rattle.journal.proofs.Places.{row-obeys, row-at, row-inside}
-use Rattle.closing.specs.Buffer.{entries, listed, FieldsStand, FloatsStand}
-use Rattle.closing.specs.Row.{Buffers, buffersOf, candidateRoom, gives, refused, fitted, noRow, rowNumber, readingRead, reading, rowAnswer, filled, RecordWhole}
+use Rattle.closing.specs.inner.Buffer.{entriesStored, FieldsStand, FloatsStand, RecordWhole}
+use Rattle.closing.specs.Buffer.{storedFirst}
+use Rattle.closing.specs.Row.{RowBuffers, rowBuffersOf, candidateRoom, gives, refused, rowFitted, noRow, rowNumber, readingRead, reading, rowAnswer, filled}
 use Rattle.closing.specs.declared.row.RowRead.the-variants.{Row as RowAnswer}
 use Rattle.closing.proofs.Buffers.{entries-listed}
 
 -- ---- the fields of the row, by their places
 
 -- the smallest of the buffers, as the code finds it
-pub same-room : (b : Buffers) {m1 m2 m3 m4 m5 : ℕ} → m1 ≡ min (length (b .near)) (length (b .parents)) → m2 ≡ min (length (b .elements)) m1
+pub same-room : (b : RowBuffers) {m1 m2 m3 m4 m5 : ℕ} → m1 ≡ min (length (b .near)) (length (b .parents)) → m2 ≡ min (length (b .elements)) m1
     → m3 ≡ min (length (b .rawLogs)) (length (b .scores)) → m4 ≡ min (length (b .intrinsics)) m3 → m5 ≡ min m2 m4 → m5 ≡ candidateRoom b
 same-room b e1 e2 e3 e4 e5 = rw (e5, e2, e4, e1, e3)
 
 -- room for n candidates in each of them
-pub record Rooms (n : ℕ) (b : Buffers) : Type 0 where
+pub record Rooms (n : ℕ) (b : RowBuffers) : Type 0 where
   pub elements : n ≤ length (b .elements)
   pub intrinsics : n ≤ length (b .intrinsics)
   pub near : n ≤ length (b .near)
@@ -43,7 +44,7 @@ pub record Rooms (n : ℕ) (b : Buffers) : Type 0 where
   pub parents : n ≤ length (b .parents)
   pub scores : n ≤ length (b .scores)
 
-pub rooms : (n : ℕ) (b : Buffers) → n ≤ candidateRoom b → Rooms n b
+pub rooms : (n : ℕ) (b : RowBuffers) → n ≤ candidateRoom b → Rooms n b
 rooms n b h = omega arith
 
 module _ (ws : List ℕ) where
@@ -59,7 +60,7 @@ module _ (ws : List ℕ) where
   row-number = length-each readDistance 2 (count * (getD ws 0 0 / 32 % 32)) (drop 1 (drop (7 * count) (drop 1 ws)))
 
   float-distance : (d : Float) (k : ℕ) → k < count * (getD ws 0 0 / 32 % 32) → floatAt ws (2 + 7 * count + 2 * k) ≡ getD (readRow ws .distances) k d
-  float-distance d k h = let few : k < size (readRow ws) * readRow ws .before = rw (row-size ws, row-before) h in sym (row-distance ws d k few ∙ rw (row-size ws))
+  float-distance d k h = let few : k < rowSize (readRow ws) * readRow ws .before = rw (row-size ws, row-before) h in sym (row-distance ws d k few ∙ rw (row-size ws))
 
   -- a candidate's fields
   abbrev plain : ℕ → Cell
@@ -69,12 +70,12 @@ module _ (ws : List ℕ) where
     score = floatAt ws (1 + 7 * k + 5);
   }
 
-  cell-plain : (k : ℕ) → k < size (readRow ws) → cellOf (readRow ws) k ≡ plain k
+  cell-plain : (k : ℕ) → k < rowSize (readRow ws) → cellOf (readRow ws) k ≡ plain k
   cell-plain k h = row-cell ws k h ∙ cell-at (1 + 7 * k) ws
 
   -- a column of the cells: where its entries are read
-  column-listed : {A : Type 0} (f : Cell → A) (g : ℕ → A) (buffer : List A) → ((k : ℕ) → g k ≡ f (plain k)) → size (readRow ws) ≤ length buffer
-      → entries count g buffer ≡ listed (map f (readRow ws .cells)) buffer
+  column-listed : {A : Type 0} (f : Cell → A) (g : ℕ → A) (buffer : List A) → ((k : ℕ) → g k ≡ f (plain k)) → rowSize (readRow ws) ≤ length buffer
+      → entriesStored count g buffer ≡ storedFirst (map f (readRow ws .cells)) buffer
   column-listed f g buffer e room =
       entries-listed (f noCell) (map f (readRow ws .cells)) buffer g (sym (row-size ws) ∙ sym (length-map (readRow ws .cells) f)) (omega (arith, row-size ws))
       (λ k l. e k ∙ ap f (sym (cell-plain k (omega (arith, row-size ws)))) ∙ sym (List·getD-map f (readRow ws .cells) k noCell))
@@ -82,7 +83,7 @@ module _ (ws : List ℕ) where
   -- ---- the row of a whole record
 
   module _ (h : RecordWhole ws) where
-    many : size (readRow ws) ≡ count
+    many : rowSize (readRow ws) ≡ count
     many = row-size ws
 
     -- its length, by what is read
@@ -110,25 +111,25 @@ module _ (ws : List ℕ) where
 
   -- ---- checked and stored
 
-  module _ (b : Buffers) {number : ℕ} (e : number ≡ count * (getD ws 0 0 / 32 % 32)) where
-    pub row-longer : candidateRoom b < count → fitted b (readRow ws) ≡ refused 15
-    unfolding fitted
-    row-longer l = let m : candidateRoom b < size (readRow ws) = omega (arith, row-size ws) in rw (lt-leb _ _ m)
+  module _ (b : RowBuffers) {number : ℕ} (e : number ≡ count * (getD ws 0 0 / 32 % 32)) where
+    pub row-longer : candidateRoom b < count → rowFitted b (readRow ws) ≡ refused 15
+    unfolding rowFitted
+    row-longer l = let m : candidateRoom b < rowSize (readRow ws) = omega (arith, row-size ws) in rw (lt-leb _ _ m)
 
     module _ (l : count ≤ candidateRoom b) where
-      room : size (readRow ws) ≤ candidateRoom b
+      room : rowSize (readRow ws) ≤ candidateRoom b
       room = omega (arith, row-size ws)
 
-      pub distances-longer : length (b .distances) < number → fitted b (readRow ws) ≡ refused 15
-      unfolding fitted
+      pub distances-longer : length (b .distances) < number → rowFitted b (readRow ws) ≡ refused 15
+      unfolding rowFitted
       distances-longer d = let m : length (b .distances) < length (readRow ws .distances) = omega (arith, row-number) in rw (le-leb _ _ room, lt-leb _ _ m)
 
       module _ (d : number ≤ length (b .distances)) where
-        row-fits : fitted b (readRow ws) ≡ gives (readRow ws)
-        unfolding fitted
+        row-fits : rowFitted b (readRow ws) ≡ gives (readRow ws)
+        unfolding rowFitted
         row-fits = let m : length (readRow ws .distances) ≤ length (b .distances) = omega (arith, row-number) in rw (le-leb _ _ room, le-leb _ _ m)
 
-        pub row-answer : RowAnswer count (getD ws 0 0 / 32 % 32) ≡ rowAnswer (fitted b (readRow ws))
+        pub row-answer : RowAnswer count (getD ws 0 0 / 32 % 32) ≡ rowAnswer (rowFitted b (readRow ws))
         unfolding rowAnswer
         row-answer = rw (row-fits, row-size ws, row-before)
 
@@ -137,17 +138,17 @@ module _ (ws : List ℕ) where
         at i k = let plus : i + 1 + 7 * k ≡ 1 + 7 * k + i = omega arith in ap (floatAt ws) plus
 
         pub row-filled : {elements : List ℕ} {intrinsics : List Float} {near : List ℕ} {rawLogs : List Float} {parents : List ℕ} {scores distances : List Float}
-            → elements ≡ entries count (λ k. getD ws (1 + 7 * k) 0 / 1 % 1024) (b .elements)
-            → intrinsics ≡ entries count (λ k. floatAt ws (2 + 7 * k)) (b .intrinsics)
-            → near ≡ entries count (λ k. getD ws (1 + 7 * k) 0 / 1024 % 2) (b .near)
-            → rawLogs ≡ entries count (λ k. floatAt ws (4 + 7 * k)) (b .rawLogs)
-            → parents ≡ entries count (λ k. getD ws (1 + 7 * k) 0 / 2048 % 32) (b .parents)
-            → scores ≡ entries count (λ k. floatAt ws (6 + 7 * k)) (b .scores)
-            → distances ≡ entries number (λ k. floatAt ws (2 + 7 * count + 2 * k)) (b .distances)
-            → buffersOf elements intrinsics near rawLogs parents scores distances ≡ filled (fitted b (readRow ws)) b
+            → elements ≡ entriesStored count (λ k. getD ws (1 + 7 * k) 0 / 1 % 1024) (b .elements)
+            → intrinsics ≡ entriesStored count (λ k. floatAt ws (2 + 7 * k)) (b .intrinsics)
+            → near ≡ entriesStored count (λ k. getD ws (1 + 7 * k) 0 / 1024 % 2) (b .near)
+            → rawLogs ≡ entriesStored count (λ k. floatAt ws (4 + 7 * k)) (b .rawLogs)
+            → parents ≡ entriesStored count (λ k. getD ws (1 + 7 * k) 0 / 2048 % 32) (b .parents)
+            → scores ≡ entriesStored count (λ k. floatAt ws (6 + 7 * k)) (b .scores)
+            → distances ≡ entriesStored number (λ k. floatAt ws (2 + 7 * count + 2 * k)) (b .distances)
+            → rowBuffersOf elements intrinsics near rawLogs parents scores distances ≡ filled (rowFitted b (readRow ws)) b
         unfolding filled
         row-filled q1 q2 q3 q4 q5 q6 q7 =
-            let each = rooms (size (readRow ws)) b room in
+            let each = rooms (rowSize (readRow ws)) b room in
             let e1 = q1 ∙ column-listed (λ (c : Cell). c .candidate .element) (λ k. getD ws (1 + 7 * k) 0 / 1 % 1024) (b .elements) (λ k. ap (λ (w : ℕ). w % 1024) (div-one (getD ws (1 + 7 * k) 0))) (each .elements) in
             let e2 = q2 ∙ column-listed (λ (c : Cell). c .candidate .intrinsic) (λ k. floatAt ws (2 + 7 * k)) (b .intrinsics) (at 1) (each .intrinsics) in
             let e3 = q3 ∙ column-listed (λ (c : Cell). c .candidate .near) (λ k. getD ws (1 + 7 * k) 0 / 1024 % 2) (b .near) (λ k. refl) (each .near) in
@@ -159,12 +160,12 @@ module _ (ws : List ℕ) where
 
 -- ---- a row at its place in the journal
 
-pub row-unread : (s : List ℕ) (n : ℕ) (b : Buffers) → survey s ≡ NotWellFormed → reading s n b ≡ refused 7
+pub row-unread : (s : List ℕ) (n : ℕ) (b : RowBuffers) → survey s ≡ NotWellFormed → reading s n b ≡ refused 7
 unfolding reading
 row-unread s n b e = rw (survey-no s e)
 
 module _ (s : List ℕ) {rows used : ℕ} {p : Predecessor} (e : survey s ≡ WellFormed rows used p) (n : ℕ) where
-  pub row-past : (b : Buffers) → rows ≤ n → reading s n b ≡ refused 13
+  pub row-past : (b : RowBuffers) → rows ≤ n → reading s n b ≡ refused 13
   unfolding reading
   row-past b l =
       let r = survey-rows s rows used p e in
@@ -172,7 +173,7 @@ module _ (s : List ℕ) {rows used : ℕ} {p : Predecessor} (e : survey s ≡ We
       rw (r .reads, le-ltb _ _ m)
 
   module _ (l : n < rows) where
-    pub row-standing : Standing s (rows - n)
+    pub row-standing : RowsAtLeast s (rows - n)
     row-standing = struck-stand s (rows - n) rows used p e (omega arith)
 
     module _ {place : ℕ} (q : place ≡ endOf s (rows - n)) where
@@ -209,7 +210,7 @@ module _ (s : List ℕ) {rows used : ℕ} {p : Predecessor} (e : survey s ≡ We
             (omega (arith, placed, length-record (rowNumber (surveyed .rows) n) (obeys .0 .0 .number), row-inside s (surveyed .rows) (surveyed .reads) k (rowNumber (surveyed .rows) n) (drop (rows - n) (surveyed .rows)) split));
       }
 
-      pub row-reading : (b : Buffers) → reading s n b ≡ fitted b (readRow (drop place s))
+      pub row-reading : (b : RowBuffers) → reading s n b ≡ rowFitted b (readRow (drop place s))
       unfolding reading
       row-reading b =
           let m : n < length (surveyed .rows) = omega (arith, surveyed .counted) in

@@ -15,7 +15,7 @@ use lib.Ieee.Fits.{and-r}
 use Rattle.lists.proofs.Lists.{drop-stored}
 use Rattle.binary64.specs.Values.{pzero}
 use Rattle.binary64.specs.Ranges.{inRange}
-use Rattle.journal.specs.Row.{Cell, Row, noParent, noCell, size, cellOf, scoreOf, scores, predecessor, sizeOf}
+use Rattle.journal.specs.Row.{Cell, Row, noParent, noCell, rowSize, cellOf, scoreOf, scores, predecessor, sizeOf}
 use Rattle.journal.specs.Ranges.{rowLimit, lowestScore, parentOk, scoreOk, cellOk}
 use Rattle.journal.specs.Record.{recordOf, recordLength, readRow}
 use Rattle.journal.specs.Journal.{words}
@@ -25,9 +25,10 @@ use Rattle.journal.proofs.Rules.{CellRules, cell-rules, row-rules}
 use Rattle.journal.proofs.Reading.{length-record}
 use Rattle.journal.proofs.Ends.{formed, back, Ended, ended-room, ended-turn}
 use Rattle.journal.proofs.Places.{row-obeys, row-at, row-inside}
-use Rattle.rows.specs.Scoring.{CandidateStands}
+use Rattle.rows.specs.inner.Scoring.{CandidateStands}
 use Rattle.decoder.specs.Closing.{follow}
-use Rattle.closing.specs.Walk.{RowStands, standing, firstRows, Reached, pathFrom, over, entered, Entry, column}
+use Rattle.closing.specs.inner.Walk.{RecordInRange, rowsIn, firstRows, Reached, pathFrom, over, pairStored, column}
+use Rattle.closing.specs.Close.{PairField}
 use Rattle.closing.specs.Row.{noRow, rowNumber}
 use Rattle.closing.specs.declared.walk.Back.{Back}
 use Rattle.closing.proofs.Records.{row-candidate}
@@ -50,7 +51,7 @@ score-low n (fin s m e) k = ranged n (fin s m e) (unfold scoreOk in k)
 
 module _ (r : Row) (rs : List Row) (o : Obey (r ∷ rs)) where
   -- each of its cells obeys them
-  pub rules : (i : ℕ) → i < size r → CellRules (r .before) (length rs) (cellOf r i)
+  pub rules : (i : ℕ) → i < rowSize r → CellRules (r .before) (length rs) (cellOf r i)
   rules i h =
       cell-rules (r .before) (length rs) (cellOf r i)
       (all-at (cellOk (r .before) (length rs)) (r .cells) i noCell (row-rules (sizeOf (predecessor rs)) (length rs) r (o .0 .1) .cells) h)
@@ -62,15 +63,15 @@ module _ (r : Row) (rs : List Row) (o : Obey (r ∷ rs)) where
       (each-intro (λ (c : Cell). T (le (c .score) pzero)) (r .cells) noCell (λ k l. score-low (length rs) (cellOf r k .score) (rules k l .score))) (unfold le in tt)
 
   -- its record holds its candidates
-  pub obey-room : 1 + 7 * size r ≤ length (recordOf r)
+  pub obey-room : 1 + 7 * rowSize r ≤ length (recordOf r)
   unfolding recordLength
   obey-room = omega (arith, length-record r (o .0 .0 .number))
 
   -- a parent is a candidate of the latest earlier row that scores, or none
-  pub obey-parent : (i : ℕ) → i < size r → (cellOf r i .parent ≡ noParent → ⊥) → cellOf r i .parent < sizeOf (predecessor rs)
+  pub obey-parent : (i : ℕ) → i < rowSize r → (cellOf r i .parent ≡ noParent → ⊥) → cellOf r i .parent < sizeOf (predecessor rs)
   obey-parent i h n =
       let before = row-rules (sizeOf (predecessor rs)) (length rs) r (o .0 .1) .before in
-      let some-cells : eqb (size r) 0 ≡ false = ne-eqb (size r) 0 (λ (e : size r ≡ 0). omega arith) in
+      let some-cells : eqb (rowSize r) 0 ≡ false = ne-eqb (rowSize r) 0 (λ (e : rowSize r ≡ 0). omega arith) in
       let all-before : r .before ≡ sizeOf (predecessor rs) = before ∙ rw some-cells in
       rw all-before at (below (r .before) (cellOf r i .parent) n (rules i h .parent))
     where
@@ -88,34 +89,34 @@ drop-length l = drop-of-length-le l (le-refl (length l))
 
 -- at most so many
 pub reached-few : (s : List ℕ) (b : Back) → Reached s b → b .pairs + b .rows ≤ rowLimit
-reached-few s b h = omega (arith, h .within, formed s (standing s) (h .reads) .1)
+reached-few s b h = omega (arith, h .within, formed s (rowsIn s) (h .reads) .1)
 
 -- ---- the rows that are left
 
-pub first-length : (s : List ℕ) (n : ℕ) → n ≤ length (standing s) → length (firstRows s n) ≡ n
-first-length s n h = length-drop (length (standing s) - n) (standing s) ∙ omega arith
+pub first-length : (s : List ℕ) (n : ℕ) → n ≤ length (rowsIn s) → length (firstRows s n) ≡ n
+first-length s n h = length-drop (length (rowsIn s) - n) (rowsIn s) ∙ omega arith
 
-pub first-all : (s : List ℕ) → firstRows s (length (standing s)) ≡ standing s
+pub first-all : (s : List ℕ) → firstRows s (length (rowsIn s)) ≡ rowsIn s
 first-all s =
-    let none-past : length (standing s) - length (standing s) ≡ 0 = omega arith in
-    ap (λ (k : ℕ). drop k (standing s)) none-past
+    let none-past : length (rowsIn s) - length (rowsIn s) ≡ 0 = omega arith in
+    ap (λ (k : ℕ). drop k (rowsIn s)) none-past
 
 module _ (s : List ℕ) (b : Back) (h : Reached s b) (left : 0 < b .rows) where
   passed : ℕ
-  passed = length (standing s) - b .rows
+  passed = length (rowsIn s) - b .rows
 
   pub here : Row
   unfolding passed
-  here = getD (standing s) passed noRow
+  here = getD (rowsIn s) passed noRow
 
   pub earlier : List Row
   earlier = firstRows s (b .rows - 1)
 
-  split-at : drop passed (standing s) ≡ here ∷ earlier
+  split-at : drop passed (rowsIn s) ≡ here ∷ earlier
   unfolding passed here earlier
   split-at =
-      let next : suc (length (standing s) - b .rows) ≡ length (standing s) - (b .rows - 1) = omega (arith, h .within) in
-      drop-cons (standing s) (length (standing s) - b .rows) noRow (omega (arith, h .within)) ∙ ap (λ (k : ℕ). here ∷ drop k (standing s)) next
+      let next : suc (length (rowsIn s) - b .rows) ≡ length (rowsIn s) - (b .rows - 1) = omega (arith, h .within) in
+      drop-cons (rowsIn s) (length (rowsIn s) - b .rows) noRow (omega (arith, h .within)) ∙ ap (λ (k : ℕ). here ∷ drop k (rowsIn s)) next
 
   pub split : firstRows s (b .rows) ≡ here ∷ earlier
   unfolding passed
@@ -125,38 +126,38 @@ module _ (s : List ℕ) (b : Back) (h : Reached s b) (left : 0 < b .rows) where
   unfolding earlier
   many = first-length s (b .rows - 1) (omega (arith, h .within))
 
-  ended : Ended s (length (standing s)) passed (b .end)
+  ended : Ended s (length (rowsIn s)) passed (b .end)
   unfolding passed
-  ended = record { stand = record { rows = standing s; reads = h .reads; enough = le-refl (length (standing s)) }; placed = h .placed }
+  ended = record { stand = record { rows = rowsIn s; reads = h .reads; enough = le-refl (length (rowsIn s)) }; placed = h .placed }
 
-  more : passed < length (standing s)
+  more : passed < length (rowsIn s)
   unfolding passed
   more = omega (arith, h .within)
 
   pub step-room : (1 ≤ b .end) × (b .end ≤ length s) × (back s (b .end) ≤ b .end)
-  step-room = ended-room s (length (standing s)) passed (b .end) ended more
+  step-room = ended-room s (length (rowsIn s)) passed (b .end) ended more
 
   pub step-place : b .end - back s (b .end) ≡ suc (length (words earlier))
   unfolding passed earlier
   step-place =
-      let turn = ended-turn s (length (standing s)) passed (b .end) ended more in
-      let same : turn .stand .rows ≡ standing s = cc (turn .stand .reads, h .reads) in
-      let next : passed + 1 ≡ length (standing s) - (b .rows - 1) = omega (arith, h .within) in
-      turn .placed ∙ ap (λ (rs : List Row). suc (length (words (drop (passed + 1) rs)))) same ∙ ap (λ (k : ℕ). suc (length (words (drop k (standing s))))) next
+      let turn = ended-turn s (length (rowsIn s)) passed (b .end) ended more in
+      let same : turn .stand .rows ≡ rowsIn s = cc (turn .stand .reads, h .reads) in
+      let next : passed + 1 ≡ length (rowsIn s) - (b .rows - 1) = omega (arith, h .within) in
+      turn .placed ∙ ap (λ (rs : List Row). suc (length (words (drop (passed + 1) rs)))) same ∙ ap (λ (k : ℕ). suc (length (words (drop k (rowsIn s))))) next
 
   pub obeys : Obey (here ∷ earlier)
-  obeys = row-obeys s (standing s) (h .reads) passed here earlier split-at
+  obeys = row-obeys s (rowsIn s) (h .reads) passed here earlier split-at
 
   pub step-row : readRow (drop (b .end - back s (b .end)) s) ≡ here
-  step-row = rw step-place (row-at s (standing s) (h .reads) passed here earlier split-at)
+  step-row = rw step-place (row-at s (rowsIn s) (h .reads) passed here earlier split-at)
 
-  pub step-stands : RowStands (drop (b .end - back s (b .end)) s)
+  pub step-stands : RecordInRange (drop (b .end - back s (b .end)) s)
   step-stands = record { room = room; score = λ i. rw step-row (obey-low here earlier obeys i) }
     where
-      room : 1 + 7 * size (readRow (drop (b .end - back s (b .end)) s)) ≤ length (drop (b .end - back s (b .end)) s)
+      room : 1 + 7 * rowSize (readRow (drop (b .end - back s (b .end)) s)) ≤ length (drop (b .end - back s (b .end)) s)
       room =
           rw (step-row, length-drop (b .end - back s (b .end)) s)
-          (omega (arith, step-place, obey-room here earlier obeys, row-inside s (standing s) (h .reads) passed here earlier split-at))
+          (omega (arith, step-place, obey-room here earlier obeys, row-inside s (rowsIn s) (h .reads) passed here earlier split-at))
 
   -- ---- over its record
 
@@ -174,7 +175,7 @@ module _ (s : List ℕ) (b : Back) (h : Reached s b) (left : 0 < b .rows) where
       unfolding follow
       follow-yes = ap (λ (rs : List Row). follow rs (b .candidate)) split ∙ rw (ne-eqb (b .candidate) noParent onward, t)
 
-      inside : b .candidate < size here
+      inside : b .candidate < rowSize here
       inside = rw (split, latest-is here earlier, t) at (h .enters onward)
 
     module _ (t : scores here ≡ false) where
@@ -273,20 +274,20 @@ module _ (s : List ℕ) (b : Back) (h : Reached s b) (left : 0 < b .rows) where
       pub over-pair : pathFrom s b ≡ (over (firstRows s (b .rows)) b .rows, b .candidate) ∷ pathFrom s (over (firstRows s (b .rows)) b)
       over-pair = follow-yes pair-scores ∙ rw (over-yes pair-scores, again)
 
-      pub over-row : readRow (drop (over (firstRows s (b .rows)) b .end) s) ≡ rowNumber (standing s) (over (firstRows s (b .rows)) b .rows)
+      pub over-row : readRow (drop (over (firstRows s (b .rows)) b .end) s) ≡ rowNumber (rowsIn s) (over (firstRows s (b .rows)) b .rows)
       unfolding here passed
       over-row =
-          let at : length (standing s) - suc (over (firstRows s (b .rows)) b .rows) ≡ length (standing s) - b .rows = omega (arith, over-rows, h .within) in
+          let at : length (rowsIn s) - suc (over (firstRows s (b .rows)) b .rows) ≡ length (rowsIn s) - b .rows = omega (arith, over-rows, h .within) in
           rw (over-place, at) step-row
 
       pub over-candidate : CandidateStands (drop (over (firstRows s (b .rows)) b .end) s) (b .candidate)
       over-candidate = rw over-place (row-candidate (drop (b .end - back s (b .end)) s) step-stands (b .candidate) (rw step-row (inside pair-scores)))
 
     -- a column of the pairs, stored from the last entry down
-    pub over-column : (f : Entry) (n : ℕ) (buffer : List ℕ) (x : ℕ) → x ≡ f (over (firstRows s (b .rows)) b .rows, b .candidate) → b .pairs < n → n ≤ length buffer
-        → column f (pathFrom s (over (firstRows s (b .rows)) b)) (n - over (firstRows s (b .rows)) b .pairs) (entered b (over (firstRows s (b .rows)) b) n x buffer)
+    pub over-column : (f : PairField) (n : ℕ) (buffer : List ℕ) (x : ℕ) → x ≡ f (over (firstRows s (b .rows)) b .rows, b .candidate) → b .pairs < n → n ≤ length buffer
+        → column f (pathFrom s (over (firstRows s (b .rows)) b)) (n - over (firstRows s (b .rows)) b .pairs) (pairStored b (over (firstRows s (b .rows)) b) n x buffer)
         ≡ column f (pathFrom s b) (n - b .pairs) buffer
-    unfolding column entered
+    unfolding column pairStored
     over-column f n buffer x e l room = go (scores here) refl
       where
         to : ℕ

@@ -9,7 +9,8 @@ use lib.Dec.{ltb}
 use lib.ListN.{length, drop, set, length-set}
 use Rattle.journal.specs.Row.{Row, noParent}
 use Rattle.decoder.specs.Closing.{Pairs, follow}
-use Rattle.closing.specs.Walk.{standing, firstRows, Reached, Onward, pathFrom, over, entered, Entry, column}
+use Rattle.closing.specs.inner.Walk.{rowsIn, firstRows, Reached, RecordLeft, pathFrom, over, pairStored, column}
+use Rattle.closing.specs.Close.{PairField}
 use Rattle.closing.specs.declared.walk.Back.{Back}
 use Rattle.closing.proofs.Steps.{drop-length, over-column}
 
@@ -27,11 +28,11 @@ module _ (s : List ℕ) (b : Back) where
   pub path-ends : b .rows ≡ 0 → pathFrom s b ≡ []
   unfolding follow
   path-ends e =
-      let all : length (standing s) - b .rows ≡ length (standing s) = omega arith in
-      rw (all, drop-length (standing s))
+      let all : length (rowsIn s) - b .rows ≡ length (rowsIn s) = omega arith in
+      rw (all, drop-length (rowsIn s))
 
   -- pairs still to come: there is a record to go over
-  pub path-onward : Reached s b → 0 < length (pathFrom s b) → Onward s b
+  pub path-onward : Reached s b → 0 < length (pathFrom s b) → RecordLeft s b
   path-onward h l = record { reached = h; left = some (b .rows) refl; parent = λ (e : b .candidate ≡ noParent). omega (arith, ap length (path-stops e)) }
     where
       some : (n : ℕ) → b .rows ≡ n → 0 < b .rows
@@ -40,8 +41,8 @@ module _ (s : List ℕ) (b : Back) where
 
 -- ---- storing the pairs
 
-entered-length : (b c : Back) (n x : ℕ) (buffer : List ℕ) → length (entered b c n x buffer) ≡ length buffer
-unfolding entered
+entered-length : (b c : Back) (n x : ℕ) (buffer : List ℕ) → length (pairStored b c n x buffer) ≡ length buffer
+unfolding pairStored
 entered-length b c n x buffer = go (ltb (b .pairs) (c .pairs))
   where
     go : (t : Bool) → length (cond t (set buffer (n - c .pairs) x) buffer) ≡ length buffer
@@ -49,17 +50,17 @@ entered-length b c n x buffer = go (ltb (b .pairs) (c .pairs))
     go false = refl
 
 -- n pairs, those found so far stored in a buffer from its entry n - 1 down
-pub record Column (s : List ℕ) (n : ℕ) (f : Entry) (whole : List ℕ) (long : ℕ) (b : Back) (buffer : List ℕ) : Type 0 where
+pub record Column (s : List ℕ) (n : ℕ) (f : PairField) (whole : List ℕ) (long : ℕ) (b : Back) (buffer : List ℕ) : Type 0 where
   pub same-length : length buffer ≡ long
   pub is-stored : column f (pathFrom s b) (n - b .pairs) buffer ≡ whole
 
-pub column-start : (s : List ℕ) (n : ℕ) (f : Entry) (b : Back) (buffer : List ℕ) → b .pairs ≡ 0 → Column s n f (column f (pathFrom s b) n buffer) (length buffer) b buffer
+pub column-start : (s : List ℕ) (n : ℕ) (f : PairField) (b : Back) (buffer : List ℕ) → b .pairs ≡ 0 → Column s n f (column f (pathFrom s b) n buffer) (length buffer) b buffer
 column-start s n f b buffer e =
     let all : n - b .pairs ≡ n = omega arith in
     record { same-length = refl; is-stored = ap (λ (k : ℕ). column f (pathFrom s b) k buffer) all }
 
-module _ {s : List ℕ} {n : ℕ} {f : Entry} {whole : List ℕ} {long : ℕ} {b : Back} {buffer : List ℕ} (c : Column s n f whole long b buffer) where
-  pub column-turn : Onward s b → b .pairs < n → n ≤ long → {r : Back} {x : ℕ} {buffer′ : List ℕ} → r ≡ over (firstRows s (b .rows)) b → x ≡ f (r .rows, b .candidate) → buffer′ ≡ entered b r n x buffer
+module _ {s : List ℕ} {n : ℕ} {f : PairField} {whole : List ℕ} {long : ℕ} {b : Back} {buffer : List ℕ} (c : Column s n f whole long b buffer) where
+  pub column-turn : RecordLeft s b → b .pairs < n → n ≤ long → {r : Back} {x : ℕ} {buffer′ : List ℕ} → r ≡ over (firstRows s (b .rows)) b → x ≡ f (r .rows, b .candidate) → buffer′ ≡ pairStored b r n x buffer
       → Column s n f whole long r buffer′
   column-turn o l room {r} {x} {buffer′} e k q = record {
     same-length = ap length q ∙ entered-length b r n x buffer ∙ c .same-length;

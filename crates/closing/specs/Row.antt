@@ -1,21 +1,19 @@
 -- Reading a row of the journal back.
-use Prim.Native.Nat.{ℕ, suc, _-_, _≤_, min}
+use Prim.Native.Nat.{ℕ, suc, _-_, min}
 use mathlib.Core.Bool.{cond}
 use mathlib.Core.List.{List, [], map}
 use mathlib.Core.Option.{Option, none, some}
 use lib.Dec.{leb, ltb}
 use lib.ListN.{length, getD}
 use lib.Ieee.{Float}
-use Rattle.journal.specs.Row.{Cell, Row, size}
-use Rattle.journal.specs.Record.{readRow, recordLength}
-use Rattle.journal.specs.Ranges.{candidateLimit}
+use Rattle.journal.specs.Row.{Cell, Row, rowSize}
 use Rattle.journal.specs.Journal.{readJournal}
-use Rattle.closing.specs.Buffer.{listed}
+use Rattle.closing.specs.Buffer.{storedFirst}
 use Rattle.closing.specs.declared.row.RowRead.{RowRead}
 use Rattle.closing.specs.declared.row.RowRead.the-variants.{Row as Answer, Refused}
 
 -- the buffers that are lent for a row, one for each field of a candidate, and for the distances
-pub record Buffers : Type 0 where
+pub record RowBuffers : Type 0 where
   pub elements : List ℕ
   pub intrinsics : List Float
   pub near : List ℕ
@@ -24,8 +22,8 @@ pub record Buffers : Type 0 where
   pub scores : List Float
   pub distances : List Float
 
-abbrev pub buffersOf : List ℕ → List Float → List ℕ → List Float → List ℕ → List Float → List Float → Buffers
-buffersOf elements intrinsics near rawLogs parents scores distances = record {
+abbrev pub rowBuffersOf : List ℕ → List Float → List ℕ → List Float → List ℕ → List Float → List Float → RowBuffers
+rowBuffersOf elements intrinsics near rawLogs parents scores distances = record {
   elements = elements;
   intrinsics = intrinsics;
   near = near;
@@ -36,7 +34,7 @@ buffersOf elements intrinsics near rawLogs parents scores distances = record {
 }
 
 -- the smallest of the candidates' buffers
-abbrev pub candidateRoom : Buffers → ℕ
+abbrev pub candidateRoom : RowBuffers → ℕ
 candidateRoom b = min (min (length (b .elements)) (min (length (b .near)) (length (b .parents)))) (min (length (b .intrinsics)) (min (length (b .rawLogs)) (length (b .scores))))
 
 -- a row, or a refusal's number
@@ -45,8 +43,8 @@ pub data Reading : Type 0 where
   refused : ℕ → Reading
 
 -- 15: the lists within the buffers
-unfoldable pub fitted : Buffers → Row → Reading
-fitted b r = cond (leb (size r) (candidateRoom b)) (cond (leb (length (r .distances)) (length (b .distances))) (gives r) (refused 15)) (refused 15)
+unfoldable pub rowFitted : RowBuffers → Row → Reading
+rowFitted b r = cond (leb (rowSize r) (candidateRoom b)) (cond (leb (length (r .distances)) (length (b .distances))) (gives r) (refused 15)) (refused 15)
 
 abbrev pub noRow : Row
 noRow = record { cells = []; before = 0; distances = [] }
@@ -55,34 +53,28 @@ noRow = record { cells = []; before = 0; distances = [] }
 abbrev pub rowNumber : List Row → ℕ → Row
 rowNumber rs n = getD rs (length rs - suc n) noRow
 
-abbrev pub readingRead : ℕ → Buffers → Option (List Row) → Reading
+abbrev pub readingRead : ℕ → RowBuffers → Option (List Row) → Reading
 readingRead n b none = refused 7
-readingRead n b (some rs) = cond (ltb n (length rs)) (fitted b (rowNumber rs n)) (refused 13)
+readingRead n b (some rs) = cond (ltb n (length rs)) (rowFitted b (rowNumber rs n)) (refused 13)
 
 -- checks 7, 13 and 15
-unfoldable pub reading : List ℕ → ℕ → Buffers → Reading
+unfoldable pub reading : List ℕ → ℕ → RowBuffers → Reading
 reading s n b = readingRead n b (readJournal s)
 
 -- its candidates and predecessor candidates, or a refusal's number
 unfoldable pub rowAnswer : Reading → RowRead
-rowAnswer (gives r) = Answer (size r) (r .before)
+rowAnswer (gives r) = Answer (rowSize r) (r .before)
 rowAnswer (refused k) = Refused k
 
 -- the buffers after the call: as they were where no row is answered
-unfoldable pub filled : Reading → Buffers → Buffers
+unfoldable pub filled : Reading → RowBuffers → RowBuffers
 filled (refused k) b = b
 filled (gives r) b = record {
-  elements = listed (map (λ (c : Cell). c .candidate .element) (r .cells)) (b .elements);
-  intrinsics = listed (map (λ (c : Cell). c .candidate .intrinsic) (r .cells)) (b .intrinsics);
-  near = listed (map (λ (c : Cell). c .candidate .near) (r .cells)) (b .near);
-  rawLogs = listed (map (λ (c : Cell). c .candidate .«raw_log») (r .cells)) (b .rawLogs);
-  parents = listed (map (λ (c : Cell). c .parent) (r .cells)) (b .parents);
-  scores = listed (map (λ (c : Cell). c .score) (r .cells)) (b .scores);
-  distances = listed (r .distances) (b .distances);
+  elements = storedFirst (map (λ (c : Cell). c .candidate .element) (r .cells)) (b .elements);
+  intrinsics = storedFirst (map (λ (c : Cell). c .candidate .intrinsic) (r .cells)) (b .intrinsics);
+  near = storedFirst (map (λ (c : Cell). c .candidate .near) (r .cells)) (b .near);
+  rawLogs = storedFirst (map (λ (c : Cell). c .candidate .«raw_log») (r .cells)) (b .rawLogs);
+  parents = storedFirst (map (λ (c : Cell). c .parent) (r .cells)) (b .parents);
+  scores = storedFirst (map (λ (c : Cell). c .score) (r .cells)) (b .scores);
+  distances = storedFirst (r .distances) (b .distances);
 }
-
--- the words begin with a row's record
-pub record RecordWhole (words : List ℕ) : Type 0 where
-  pub few : size (readRow words) ≤ candidateLimit
-  pub few-before : readRow words .before ≤ candidateLimit
-  pub room : recordLength (size (readRow words)) (readRow words .before) ≤ length words

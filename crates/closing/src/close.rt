@@ -11,8 +11,8 @@ ghost use mathlib.Core.Path.{_≡_};
 ghost use Prim.Native.Nat.{min};
 ghost use lib.ListN.{length};
 ghost use Rattle.decoder.specs.Call.{closingOn};
-ghost use Rattle.closing.specs.Walk.{rowOf, candidateOf};
-ghost use Rattle.closing.specs.Close.{answered, stored, Scoring};
+ghost use Rattle.closing.specs.Close.{pairRow, pairCandidate, closeAnswer, closeStored};
+ghost use Rattle.closing.specs.inner.Walk.{Scoring};
 
 // What closing answers: no row scores; the score of the best path and its number of pairs; or a refusal's number.
 pub enum Closing {
@@ -32,9 +32,9 @@ fn close_from(
     candidates: &mut [u32],
 ) -> Closing
     requires { ⌜ Scoring (now journal) standing used place count ⌝ }
-    ensures { λ r. ⌜ r ≡ answered (closingOn (now (journal .entry)) (min (length (now (rows .entry))) (length (now (candidates .entry))))) ⌝ }
-    ensures { λ r. ⌜ now (rows .exit) ≡ stored rowOf (closingOn (now (journal .entry)) (min (length (now (rows .entry))) (length (now (candidates .entry))))) (now (rows .entry)) ⌝ }
-    ensures { λ r. ⌜ now (candidates .exit) ≡ stored candidateOf (closingOn (now (journal .entry)) (min (length (now (rows .entry))) (length (now (candidates .entry))))) (now (candidates .entry)) ⌝ }
+    ensures { λ r. ⌜ r ≡ closeAnswer (closingOn (now (journal .entry)) (min (length (now (rows .entry))) (length (now (candidates .entry))))) ⌝ }
+    ensures { λ r. ⌜ now (rows .exit) ≡ closeStored pairRow (closingOn (now (journal .entry)) (min (length (now (rows .entry))) (length (now (candidates .entry))))) (now (rows .entry)) ⌝ }
+    ensures { λ r. ⌜ now (candidates .exit) ≡ closeStored pairCandidate (closingOn (now (journal .entry)) (min (length (now (rows .entry))) (length (now (candidates .entry))))) (now (candidates .entry)) ⌝ }
 {
     let best = best_previous(&journal[place..], count);
     let start = Back {
@@ -54,9 +54,9 @@ fn close_from(
 // The best path: its score, and its pairs of a row and a candidate into the buffers, in row order; none where no row scores; or a refusal by check 7,
 // or by 15 where a buffer has fewer entries than there are pairs. Entries past the pairs keep what they held.
 pub fn close(journal: &[u32], rows: &mut [u32], candidates: &mut [u32]) -> Closing
-    ensures { λ r. ⌜ r ≡ answered (closingOn (now (journal .entry)) (min (length (now (rows .entry))) (length (now (candidates .entry))))) ⌝ }
-    ensures { λ r. ⌜ now (rows .exit) ≡ stored rowOf (closingOn (now (journal .entry)) (min (length (now (rows .entry))) (length (now (candidates .entry))))) (now (rows .entry)) ⌝ }
-    ensures { λ r. ⌜ now (candidates .exit) ≡ stored candidateOf (closingOn (now (journal .entry)) (min (length (now (rows .entry))) (length (now (candidates .entry))))) (now (candidates .entry)) ⌝ }
+    ensures { λ r. ⌜ r ≡ closeAnswer (closingOn (now (journal .entry)) (min (length (now (rows .entry))) (length (now (candidates .entry))))) ⌝ }
+    ensures { λ r. ⌜ now (rows .exit) ≡ closeStored pairRow (closingOn (now (journal .entry)) (min (length (now (rows .entry))) (length (now (candidates .entry))))) (now (rows .entry)) ⌝ }
+    ensures { λ r. ⌜ now (candidates .exit) ≡ closeStored pairCandidate (closingOn (now (journal .entry)) (min (length (now (rows .entry))) (length (now (candidates .entry))))) (now (candidates .entry)) ⌝ }
 {
     let found = read_journal(journal);
     match found {

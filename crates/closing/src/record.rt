@@ -4,8 +4,8 @@ use rows::previous::best_previous;
 ghost use mathlib.Core.Path.{_≡_};
 ghost use Rattle.journal.specs.Row.{cellOf, scores};
 ghost use Rattle.journal.specs.Record.{readRow};
-ghost use Rattle.rows.specs.Scoring.{CandidateStands};
-ghost use Rattle.closing.specs.Walk.{RowStands};
+ghost use Rattle.rows.specs.inner.Scoring.{CandidateStands};
+ghost use Rattle.closing.specs.inner.Walk.{RecordInRange};
 
 // The parent of candidate i.
 pub fn parent_of(words: &[u32], i: usize) -> u32
@@ -17,7 +17,7 @@ pub fn parent_of(words: &[u32], i: usize) -> u32
 
 // Whether the row scores: its best score is finite.
 pub fn row_scores(words: &[u32]) -> bool
-    requires { ⌜ RowStands (now words) ⌝ }
+    requires { ⌜ RecordInRange (now words) ⌝ }
     ensures { λ r. ⌜ r ≡ scores (readRow (now (words .entry))) ⌝ }
 {
     let count = (words[0] % 32) as usize;

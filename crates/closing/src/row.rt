@@ -8,7 +8,8 @@ use journal::check::read_journal;
 use journal::record::distance_count;
 ghost use mathlib.Core.Path.{_≡_};
 ghost use Rattle.journal.specs.Record.{readRow};
-ghost use Rattle.closing.specs.Row.{Buffers, RecordWhole, buffersOf, fitted, reading, rowAnswer, filled};
+ghost use Rattle.closing.specs.Row.{RowBuffers, rowBuffersOf, rowFitted, reading, rowAnswer, filled};
+ghost use Rattle.closing.specs.inner.Buffer.{RecordWhole};
 
 // What reading a row answers: its number of candidates and of predecessor candidates, or a refusal's number.
 pub enum RowRead {
@@ -27,13 +28,13 @@ fn copy_row(
     scores: &mut [f64],
     distances: &mut [f64],
 ) -> RowRead
-    ghost { Buffers }
-    requires { λ b. ⌜ buffersOf (now elements) (now intrinsics) (now near) (now «raw_logs») (now parents) (now scores) (now distances) ≡ b ⌝ }
+    ghost { RowBuffers }
+    requires { λ b. ⌜ rowBuffersOf (now elements) (now intrinsics) (now near) (now «raw_logs») (now parents) (now scores) (now distances) ≡ b ⌝ }
     requires { λ _. ⌜ RecordWhole (now words) ⌝ }
     ensures { λ b r.
-        let l = fitted b (readRow (now (words .entry))) in
+        let l = rowFitted b (readRow (now (words .entry))) in
         ⌜ (r ≡ rowAnswer l)
-        × (buffersOf (now (elements .exit)) (now (intrinsics .exit)) (now (near .exit)) (now («raw_logs» .exit)) (now (parents .exit)) (now (scores .exit)) (now (distances .exit)) ≡ filled l b) ⌝ }
+        × (rowBuffersOf (now (elements .exit)) (now (intrinsics .exit)) (now (near .exit)) (now («raw_logs» .exit)) (now (parents .exit)) (now (scores .exit)) (now (distances .exit)) ≡ filled l b) ⌝ }
 {
     let count = (words[0] % 32) as usize;
     let before = (words[0] / 32 % 32) as usize;
@@ -70,10 +71,10 @@ pub fn read_row(
     distances: &mut [f64],
 ) -> RowRead
     ensures { λ r.
-        let b = buffersOf (now (elements .entry)) (now (intrinsics .entry)) (now (near .entry)) (now («raw_logs» .entry)) (now (parents .entry)) (now (scores .entry)) (now (distances .entry)) in
+        let b = rowBuffersOf (now (elements .entry)) (now (intrinsics .entry)) (now (near .entry)) (now («raw_logs» .entry)) (now (parents .entry)) (now (scores .entry)) (now (distances .entry)) in
         let l = reading (now (journal .entry)) row b in
         ⌜ (r ≡ rowAnswer l)
-        × (buffersOf (now (elements .exit)) (now (intrinsics .exit)) (now (near .exit)) (now («raw_logs» .exit)) (now (parents .exit)) (now (scores .exit)) (now (distances .exit)) ≡ filled l b) ⌝ }
+        × (rowBuffersOf (now (elements .exit)) (now (intrinsics .exit)) (now (near .exit)) (now («raw_logs» .exit)) (now (parents .exit)) (now (scores .exit)) (now (distances .exit)) ≡ filled l b) ⌝ }
 {
     let found = read_journal(journal);
     match found {

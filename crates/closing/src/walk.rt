@@ -4,7 +4,8 @@ use crate::record::row_scores;
 ghost use mathlib.Core.Path.{_≡_};
 ghost use Prim.Native.Nat.{_+_, _<_, _≤_};
 ghost use lib.ListN.{length};
-ghost use Rattle.closing.specs.Walk.{Reached, Onward, firstRows, pathFrom, over, entered, rowOf, candidateOf, column};
+ghost use Rattle.closing.specs.inner.Walk.{Reached, RecordLeft, firstRows, pathFrom, over, pairStored, column};
+ghost use Rattle.closing.specs.Close.{pairRow, pairCandidate};
 
 // Where it stands: so many rows are left, whose records end at a place; the candidate of the latest of them that scores, 31 for none; and the number
 // of pairs found so far.
@@ -17,7 +18,7 @@ pub struct Back {
 
 // Over one record: a row that scores gives a pair, and its candidate's parent is the next one.
 pub fn step_back(journal: &[u32], b: Back) -> Back
-    requires { ⌜ Onward (now journal) b ⌝ }
+    requires { ⌜ RecordLeft (now journal) b ⌝ }
     ensures { λ r. ⌜ r ≡ over (firstRows (now (journal .entry)) (b .rows)) b ⌝ }
 {
     let last = b.end - 1;
@@ -57,11 +58,11 @@ pub fn path_length(journal: &[u32], start: Back) -> usize
 
 // One step, its pair stored in the buffers for n pairs.
 fn store_back(journal: &[u32], b: Back, n: usize, rows: &mut [u32], candidates: &mut [u32]) -> Back
-    requires { ⌜ Onward (now journal) b ⌝ }
+    requires { ⌜ RecordLeft (now journal) b ⌝ }
     requires { ⌜ (b .pairs < n) × (n ≤ length (now rows)) × (n ≤ length (now candidates)) ⌝ }
     ensures { λ r. ⌜ r ≡ over (firstRows (now (journal .entry)) (b .rows)) b ⌝ }
-    ensures { λ r. ⌜ now (rows .exit) ≡ entered b r n (r .rows) (now (rows .entry)) ⌝ }
-    ensures { λ r. ⌜ now (candidates .exit) ≡ entered b r n (b .candidate) (now (candidates .entry)) ⌝ }
+    ensures { λ r. ⌜ now (rows .exit) ≡ pairStored b r n (r .rows) (now (rows .entry)) ⌝ }
+    ensures { λ r. ⌜ now (candidates .exit) ≡ pairStored b r n (b .candidate) (now (candidates .entry)) ⌝ }
 {
     let next = step_back(journal, b);
     if b.pairs < next.pairs {
@@ -77,8 +78,8 @@ pub fn write_path(journal: &[u32], start: Back, n: usize, rows: &mut [u32], cand
     requires { ⌜ Reached (now journal) start ⌝ }
     requires { ⌜ (start .pairs ≡ 0) × (n ≡ length (pathFrom (now journal) start)) ⌝ }
     requires { ⌜ (n ≤ length (now rows)) × (n ≤ length (now candidates)) ⌝ }
-    ensures { λ _. ⌜ now (rows .exit) ≡ column rowOf (pathFrom (now (journal .entry)) start) n (now (rows .entry)) ⌝ }
-    ensures { λ _. ⌜ now (candidates .exit) ≡ column candidateOf (pathFrom (now (journal .entry)) start) n (now (candidates .entry)) ⌝ }
+    ensures { λ _. ⌜ now (rows .exit) ≡ column pairRow (pathFrom (now (journal .entry)) start) n (now (rows .entry)) ⌝ }
+    ensures { λ _. ⌜ now (candidates .exit) ≡ column pairCandidate (pathFrom (now (journal .entry)) start) n (now (candidates .entry)) ⌝ }
 {
     let mut b = start;
     while b.pairs < n {

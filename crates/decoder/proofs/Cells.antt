@@ -12,47 +12,49 @@ use lib.Ieee.{Float, nan, inf, fin, binary64, lt, le, isNan, round}
 use lib.Ieee.Scale.{finite}
 use lib.Ieee.Bits.{is-true}
 use lib.Ieee.Fits.{and-l, and-r}
-use Rattle.lists.specs.Loops.{any}
+use Rattle.lists.specs.Loops.{anyBelow}
 use Rattle.lists.proofs.Loops.{any-stop, any-some}
 use Rattle.binary64.specs.Values.{pzero}
 use Rattle.binary64.specs.Ranges.{inRange}
+use Rattle.binary64.specs.Operators.{_⊕_}
 use Rattle.binary64.proofs.Order.{taken, missed, le-trans, le-left, not-lt→le}
 use Rattle.binary64.proofs.Costs.{score-sum}
 use Rattle.journal.specs.declared.record.Candidate.{Candidate}
-use Rattle.journal.specs.Row.{Fix, Cell, Row, noCandidate, noCell, count, candidateOf, size, cellOf, scoreOf, fixOf, scores}
+use Rattle.journal.specs.Row.{Fix, Cell, Row, noCandidate, noCell, candidateCount, candidateOf, rowSize, cellOf, scoreOf, scores}
+use Rattle.journal.specs.inner.Row.{fixOf}
 use Rattle.journal.specs.Ranges.{rawLogOk, candidateOk}
 use Rattle.journal.proofs.Lists.{length-number, getD-number, map-number, number-self}
 use Rattle.journal.proofs.Rules.{candidate-rules}
 use Rattle.transition.specs.declared.step.Step.{Step}
 use Rattle.transition.specs.declared.step.Step.the-variants.{Possible, Impossible}
-use Rattle.rows.specs.Row.{_⊕_, StepScore, firstBest, floor, breakScore, floored, bestOf, through, isPossible, offer, broken, scored, row}
+use Rattle.rows.specs.Row.{StepScore, firstBest, floor, breakScore, floored, bestOf, sumThrough, isPossible, offer, broken, scored, row}
 use Rattle.decoder.proofs.Bound.{bound, Within, most, sum-bound, minus-inf-within, unit}
 
 -- ---- a finite score is some candidate's
-pub cell-outside : (r : Row) (j : ℕ) → size r ≤ j → scoreOf r j ≡ inf true
+pub cell-outside : (r : Row) (j : ℕ) → rowSize r ≤ j → scoreOf r j ≡ inf true
 cell-outside r j h = ap (λ (c : Cell). c .score) (List·getD-eq-default (r .cells) noCell h)
 
-pub scored-inside : (r : Row) (j : ℕ) → T (finite (scoreOf r j)) → j < size r
-scored-inside r j t = go (ltb j (size r)) refl
+pub scored-inside : (r : Row) (j : ℕ) → T (finite (scoreOf r j)) → j < rowSize r
+scored-inside r j t = go (ltb j (rowSize r)) refl
   where
-    go : (b : Bool) → ltb j (size r) ≡ b → j < size r
-    go true e = ltb→lt j (size r) (taken e)
-    go false e = absurd (subst (λ (x : Float). T (finite x)) (cell-outside r j (nltb→le j (size r) (missed e))) t)
+    go : (b : Bool) → ltb j (rowSize r) ≡ b → j < rowSize r
+    go true e = ltb→lt j (rowSize r) (taken e)
+    go false e = absurd (subst (λ (x : Float). T (finite x)) (cell-outside r j (nltb→le j (rowSize r) (missed e))) t)
 
 -- some number below n passes
-any-intro : (n j : ℕ) (test : ℕ → Bool) → j < n → T (test j) → T (any n test)
+any-intro : (n j : ℕ) (test : ℕ → Bool) → j < n → T (test j) → T (anyBelow n test)
 any-intro n j test h t = taken (sym (any-stop j n test h (is-true (test j) t)))
 
-any-elim : (n : ℕ) (test : ℕ → Bool) → T (any n test) → (j : ℕ) × (j < n) × T (test j)
-any-elim n test t = let a = any-some n test (is-true (any n test) t) in (a .0, a .1, taken (a .2))
+any-elim : (n : ℕ) (test : ℕ → Bool) → T (anyBelow n test) → (j : ℕ) × (j < n) × T (test j)
+any-elim n test t = let a = any-some n test (is-true (anyBelow n test) t) in (a .0, a .1, taken (a .2))
 
 pub scores-intro : (r : Row) (j : ℕ) → T (finite (scoreOf r j)) → T (scores r)
 unfolding scores
-scores-intro r j t = any-intro (size r) j (λ i. finite (scoreOf r i)) (scored-inside r j t) t
+scores-intro r j t = any-intro (rowSize r) j (λ i. finite (scoreOf r i)) (scored-inside r j t) t
 
-pub scores-elim : (r : Row) → T (scores r) → (j : ℕ) × (j < size r) × T (finite (scoreOf r j))
+pub scores-elim : (r : Row) → T (scores r) → (j : ℕ) × (j < rowSize r) × T (finite (scoreOf r j))
 unfolding scores
-scores-elim r t = any-elim (size r) (λ i. finite (scoreOf r i)) t
+scores-elim r t = any-elim (rowSize r) (λ i. finite (scoreOf r i)) t
 
 -- ---- what goes through a predecessor candidate
 apart : {X : Type 0} (v : Float) → Impossible ≡ Possible v → X
@@ -61,7 +63,7 @@ apart v e = absurd (omega (arith, zero-one))
     zero-one : _≡_ {A = ℕ} 0 1
     zero-one = cc
 
-pub through-inv : (s : Float) (t : Step) (l v : Float) → through s t l ≡ Possible v → (u : Float) × T (finite s) × (t ≡ Possible u) × (v ≡ s ⊕ u ⊕ l)
+pub through-inv : (s : Float) (t : Step) (l v : Float) → sumThrough s t l ≡ Possible v → (u : Float) × T (finite s) × (t ≡ Possible u) × (v ≡ s ⊕ u ⊕ l)
 through-inv s Impossible l v e = apart v e
 through-inv s (Possible u) l v e = go (finite s) refl e
   where
@@ -69,18 +71,18 @@ through-inv s (Possible u) l v e = go (finite s) refl e
     go true q k = (u, taken q, refl, cc)
     go false q k = apart v k
 
-pub through-at : (s : Float) (t : Step) (l u : Float) → T (finite s) → t ≡ Possible u → through s t l ≡ Possible (s ⊕ u ⊕ l)
+pub through-at : (s : Float) (t : Step) (l u : Float) → T (finite s) → t ≡ Possible u → sumThrough s t l ≡ Possible (s ⊕ u ⊕ l)
 through-at nan t l u f e = absurd f
 through-at (inf b) t l u f e = absurd f
-through-at (fin b m k) t l u f e = ap (λ (x : Step). through (fin b m k) x l) e
+through-at (fin b m k) t l u f e = ap (λ (x : Step). sumThrough (fin b m k) x l) e
 
 -- ---- the cells of a row
 module _ (step : StepScore) (o : Option Row) (f : Fix) where
-  pub size-row : size (row step o f) ≡ count f
+  pub size-row : rowSize (row step o f) ≡ candidateCount f
   unfolding row
   size-row = length-number (λ i c. record { candidate = c; parent = (scored step o f i c) .0; score = (scored step o f i c) .1 }) 0 (f .candidates)
 
-  pub cell-row : (i : ℕ) → i < count f
+  pub cell-row : (i : ℕ) → i < candidateCount f
       → cellOf (row step o f) i ≡ record { candidate = candidateOf f i; parent = (scored step o f i (candidateOf f i)) .0; score = (scored step o f i (candidateOf f i)) .1 }
   unfolding row
   cell-row i h =
@@ -94,10 +96,10 @@ module _ (step : StepScore) (o : Option Row) (f : Fix) where
       same : List Candidate → Fix
       same l = record { candidates = l; distances = f .distances }
 
-  pub score-row : (i : ℕ) → i < count f → scoreOf (row step o f) i ≡ (scored step o f i (candidateOf f i)) .1
+  pub score-row : (i : ℕ) → i < candidateCount f → scoreOf (row step o f) i ≡ (scored step o f i (candidateOf f i)) .1
   score-row i h = ap (λ (c : Cell). c .score) (cell-row i h)
 
-  pub parent-row : (i : ℕ) → i < count f → cellOf (row step o f) i .parent ≡ (scored step o f i (candidateOf f i)) .0
+  pub parent-row : (i : ℕ) → i < candidateCount f → cellOf (row step o f) i .parent ≡ (scored step o f i (candidateOf f i)) .0
   parent-row i h = ap (λ (c : Cell). c .parent) (cell-row i h)
 
 module _ (step : StepScore) (p : Row) (f : Fix) where
@@ -105,7 +107,7 @@ module _ (step : StepScore) (p : Row) (f : Fix) where
   unfolding scored
   scored-broken i c e = rw e
 
-  pub scored-whole : (i : ℕ) (c : Candidate) → broken step p f ≡ false → scored step (some p) f i c ≡ firstBest (offer step p f i) (size p)
+  pub scored-whole : (i : ℕ) (c : Candidate) → broken step p f ≡ false → scored step (some p) f i c ≡ firstBest (offer step p f i) (rowSize p)
   unfolding scored
   scored-whole i c e = rw e
 
@@ -114,12 +116,12 @@ module _ (step : StepScore) (p : Row) (f : Fix) where
   possible-step (Possible v) t = (v, refl)
 
   -- an unbroken row has a Possible step
-  pub unbroken : broken step p f ≡ false → (i : ℕ) × (j : ℕ) × (v : Float) × (i < count f) × (j < size p) × (offer step p f i j ≡ Possible v)
+  pub unbroken : broken step p f ≡ false → (i : ℕ) × (j : ℕ) × (v : Float) × (i < candidateCount f) × (j < rowSize p) × (offer step p f i j ≡ Possible v)
   unfolding broken
   unbroken e =
-      let t : T (any (count f) (λ i. any (size p) (λ j. isPossible (offer step p f i j)))) = not-false (any (count f) (λ i. any (size p) (λ j. isPossible (offer step p f i j)))) e in
-      let a = any-elim (count f) (λ i. any (size p) (λ j. isPossible (offer step p f i j))) t in
-      let b = any-elim (size p) (λ j. isPossible (offer step p f (a .0) j)) (a .2) in
+      let t : T (anyBelow (candidateCount f) (λ i. anyBelow (rowSize p) (λ j. isPossible (offer step p f i j)))) = not-false (anyBelow (candidateCount f) (λ i. anyBelow (rowSize p) (λ j. isPossible (offer step p f i j)))) e in
+      let a = any-elim (candidateCount f) (λ i. anyBelow (rowSize p) (λ j. isPossible (offer step p f i j))) t in
+      let b = any-elim (rowSize p) (λ j. isPossible (offer step p f (a .0) j)) (a .2) in
       let v = possible-step (offer step p f (a .0) (b .0)) (b .2) in
       (a .0, b .0, v .0, a .1, b .1, v .1)
     where
@@ -128,12 +130,12 @@ module _ (step : StepScore) (p : Row) (f : Fix) where
       not-false false q = absurd (true≢false q)
 
   -- and in a broken one no offer is Possible
-  pub no-offer : T (broken step p f) → (i j : ℕ) (v : Float) → i < count f → j < size p → offer step p f i j ≡ Possible v → ⊥
+  pub no-offer : T (broken step p f) → (i j : ℕ) (v : Float) → i < candidateCount f → j < rowSize p → offer step p f i j ≡ Possible v → ⊥
   unfolding broken
   no-offer t i j v h k e =
-      T-not (any (count f) (λ i. any (size p) (λ j. isPossible (offer step p f i j)))) t
-      (any-intro (count f) i (λ i. any (size p) (λ j. isPossible (offer step p f i j))) h
-      (any-intro (size p) j (λ j. isPossible (offer step p f i j)) k (subst (λ (s : Step). T (isPossible s)) (sym e) tt)))
+      T-not (anyBelow (candidateCount f) (λ i. anyBelow (rowSize p) (λ j. isPossible (offer step p f i j)))) t
+      (any-intro (candidateCount f) i (λ i. anyBelow (rowSize p) (λ j. isPossible (offer step p f i j))) h
+      (any-intro (rowSize p) j (λ j. isPossible (offer step p f i j)) k (subst (λ (s : Step). T (isPossible s)) (sym e) tt)))
 
 -- ---- a candidate's logs
 abbrev lowest745 : Float

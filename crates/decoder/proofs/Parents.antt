@@ -12,13 +12,15 @@ use lib.Ieee.{Float, nan, inf, fin, binary64, le}
 use lib.Ieee.Scale.{finite}
 use lib.Ieee.Bits.{is-true, is-false}
 use Rattle.binary64.specs.Values.{pzero}
+use Rattle.binary64.specs.Operators.{_⊕_}
 use Rattle.binary64.proofs.Order.{taken, missed}
 use Rattle.binary64.proofs.Sum.{add-comm}
 use Rattle.binary64.proofs.Costs.{score-sum, score-inf, score-mono-left}
-use Rattle.journal.specs.Row.{Fix, Cell, Row, noParent, noCell, candidateOf, distanceOf, cellOf, scoreOf, fixOf, scores, predecessor}
+use Rattle.journal.specs.Row.{Fix, Cell, Row, noParent, noCell, candidateOf, distanceOf, cellOf, scoreOf, scores, predecessor}
+use Rattle.journal.specs.inner.Row.{fixOf}
 use Rattle.journal.proofs.Lists.{some-none}
 use Rattle.transition.specs.declared.step.Step.the-variants.{Possible}
-use Rattle.rows.specs.Row.{_⊕_, StepScore, floored, offer}
+use Rattle.rows.specs.Row.{StepScore, floored, offer}
 use Rattle.decoder.specs.Closing.{follow}
 use Rattle.decoder.proofs.Cells.{through-inv}
 

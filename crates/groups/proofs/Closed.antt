@@ -6,11 +6,11 @@ use lib.Ieee.{Float}
 use Rattle.lists.proofs.Lists.{map-back}
 use Rattle.decoder.specs.Closing.{Closed, path}
 use Rattle.closing.specs.declared.walk.Back.{Back}
-use Rattle.closing.specs.Walk.{standing, pathFrom}
+use Rattle.closing.specs.inner.Walk.{rowsIn, pathFrom}
 use Rattle.groups.specs.Groups.{stateAt, groups, groupsClosed}
-use Rattle.groups.specs.Gather.{statesFrom, groupsFrom}
+use Rattle.groups.specs.inner.Gather.{statesFrom, groupsFrom}
 use Rattle.groups.proofs.Onto.{onto-groups}
 
-pub closed-groups : (s : List ℕ) (b : Back) (score : Float) {c : Closed} → c ≡ path (reverse (pathFrom s b)) score → groupsClosed (standing s) c ≡ groupsFrom s b
+pub closed-groups : (s : List ℕ) (b : Back) (score : Float) {c : Closed} → c ≡ path (reverse (pathFrom s b)) score → groupsClosed (rowsIn s) c ≡ groupsFrom s b
 unfolding groupsClosed
-closed-groups s b score e = rw e (ap groups (map-back (stateAt (standing s)) (pathFrom s b) []) ∙ sym (onto-groups (statesFrom s b)))
+closed-groups s b score e = rw e (ap groups (map-back (stateAt (rowsIn s)) (pathFrom s b) []) ∙ sym (onto-groups (statesFrom s b)))

@@ -12,20 +12,20 @@ use Rattle.lists.proofs.Loops.{clash, two, and-both}
 use Rattle.journal.specs.Row.{noParent, cellOf}
 use Rattle.journal.specs.Record.{readRow}
 use Rattle.journal.specs.declared.record.Candidate.{Candidate}
-use Rattle.rows.specs.Scoring.{CandidateStands}
+use Rattle.rows.specs.inner.Scoring.{CandidateStands}
 use Rattle.closing.specs.declared.walk.Back.{Back}
-use Rattle.closing.specs.Walk.{standing, firstRows, Reached, Onward, pathFrom, over}
+use Rattle.closing.specs.inner.Walk.{rowsIn, firstRows, Reached, RecordLeft, pathFrom, over}
 use Rattle.closing.proofs.Steps.{reached-few, over-reached, over-rows, over-inside, over-candidate, over-quiet, over-pair, over-row}
 use Rattle.closing.proofs.Storing.{path-stops, path-ends}
 use Rattle.groups.specs.declared.group.NetelementGroup.{NetelementGroup}
 use Rattle.groups.specs.declared.gather.Gathering.{Gathering}
-use Rattle.groups.specs.Groups.{stateOf, stateAt, alone, join, before}
-use Rattle.groups.specs.Gather.{statesFrom, onto, groupsFrom, groupRead, pending, goesOn, Ended, Turned, Gathered}
+use Rattle.groups.specs.Groups.{stateOf, stateAt, alone, withState, before}
+use Rattle.groups.specs.inner.Gather.{statesFrom, onto, groupsFrom, groupRead, pending, goesOn, GroupEnded, RecordTaken, Gathered}
 use Rattle.groups.proofs.Onto.{onto-joins, onto-apart}
 
 -- ---- one record
 
-module _ (s : List ℕ) (g : Gathering) (o : Onward s (g .back)) {next : Back} (e : next ≡ over (firstRows s (g .back .rows)) (g .back)) where
+module _ (s : List ℕ) (g : Gathering) (o : RecordLeft s (g .back)) {next : Back} (e : next ≡ over (firstRows s (g .back .rows)) (g .back)) where
   reached-next : Reached s next
   reached-next = rw e (over-reached s (g .back) (o .reached) (o .left) (o .parent))
 
@@ -49,10 +49,10 @@ module _ (s : List ℕ) (g : Gathering) (o : Onward s (g .back)) {next : Back} (
   next-stands q = rw e (over-candidate s (g .back) (o .reached) (o .left) (o .parent) (paired q))
 
   -- it holds no state
-  pub no-state : next .pairs ≡ g .back .pairs → Turned s g (record { begun = g .begun; ended = false; group = g .group; back = next })
+  pub no-state : next .pairs ≡ g .back .pairs → RecordTaken s g (record { begun = g .begun; ended = false; group = g .group; back = next })
   no-state q = record {
     reached = reached-next;
-    same = ap (onto (groupRead g)) (sym (ap (map (stateAt (standing s))) (over-quiet s (g .back) (o .reached) (o .left) (o .parent) (rw e at q) ∙ ap (pathFrom s) (sym e))));
+    same = ap (onto (groupRead g)) (sym (ap (map (stateAt (rowsIn s))) (over-quiet s (g .back) (o .reached) (o .left) (o .parent) (rw e at q) ∙ ap (pathFrom s) (sym e))));
     ends = λ k. clash k refl;
     fewer = λ _. fewer-next;
   }
@@ -61,10 +61,10 @@ module _ (s : List ℕ) (g : Gathering) (o : Onward s (g .back)) {next : Back} (
   module _ (q : next .pairs ≡ g .back .pairs → ⊥) {c : Candidate} (is : c ≡ cellOf (readRow (drop (next .end) s)) (g .back .candidate) .candidate) where
     states-split : statesFrom s (g .back) ≡ stateOf (next .rows) c ∷ statesFrom s next
     states-split =
-        ap (map (stateAt (standing s))) (over-pair s (g .back) (o .reached) (o .left) (o .parent) (paired q))
+        ap (map (stateAt (rowsIn s))) (over-pair s (g .back) (o .reached) (o .left) (o .parent) (paired q))
         ∙ rw (is, e, over-row s (g .back) (o .reached) (o .left) (o .parent) (paired q))
 
-    pub first-state : g .begun ≡ false → Turned s g (past (alone (stateOf (next .rows) c)))
+    pub first-state : g .begun ≡ false → RecordTaken s g (past (alone (stateOf (next .rows) c)))
     first-state b = record {
       reached = reached-next;
       same = sym (ap (onto (groupRead g)) states-split ∙ rw b (unfold onto before in refl));
@@ -72,7 +72,7 @@ module _ (s : List ℕ) (g : Gathering) (o : Onward s (g .back)) {next : Back} (
       fewer = λ _. fewer-next;
     }
 
-    pub further-state : g .begun ≡ true → c .element ≡ g .group .element → Turned s g (past (join (stateOf (next .rows) c) (g .group)))
+    pub further-state : g .begun ≡ true → c .element ≡ g .group .element → RecordTaken s g (past (withState (stateOf (next .rows) c) (g .group)))
     further-state b k = record {
       reached = reached-next;
       same = sym (ap (onto (groupRead g)) states-split ∙ rw b (onto-joins (g .group) (stateOf (next .rows) c) (statesFrom s next) (eq-eqb _ _ k)));
@@ -80,7 +80,7 @@ module _ (s : List ℕ) (g : Gathering) (o : Onward s (g .back)) {next : Back} (
       fewer = λ _. fewer-next;
     }
 
-    pub other-state : g .begun ≡ true → (c .element ≡ g .group .element → ⊥) → Turned s g (record { begun = true; ended = true; group = g .group; back = g .back })
+    pub other-state : g .begun ≡ true → (c .element ≡ g .group .element → ⊥) → RecordTaken s g (record { begun = true; ended = true; group = g .group; back = g .back })
     other-state b k = record {
       reached = o .reached;
       same = rw b;
@@ -99,7 +99,7 @@ pub record Going (s : List ℕ) (start : Back) (g : Gathering) : Type 0 where
   pub same : pending s g ≡ groupsFrom s start
   pub few : g .back .rows ≤ start .rows
   pub fewer : g .begun ≡ true → g .back .rows < start .rows
-  pub ends : g .ended ≡ true → Ended s g
+  pub ends : g .ended ≡ true → GroupEnded s g
 
 pub going-begin : (s : List ℕ) (start : Back) (g : NetelementGroup) → Reached s start → Going s start (record { begun = false; ended = false; group = g; back = start })
 going-begin s start g h = record { reached = h; same = refl; few = omega arith; fewer = λ k. clash k refl; ends = λ k. clash k refl }
@@ -122,7 +122,7 @@ stops g t = go (g .ended) (eqb (g .back .rows) 0) (eqb (g .back .candidate) noPa
     go false false true p q r t = inr (inr (eqb-true _ _ r))
     go false false false p q r t = clash refl t
 
-pub turn-less : (s : List ℕ) (g r : Gathering) → goesOn g ≡ true → Turned s g r → r .back .rows + cond (r .ended) 0 1 < g .back .rows + cond (g .ended) 0 1
+pub turn-less : (s : List ℕ) (g r : Gathering) → goesOn g ≡ true → RecordTaken s g r → r .back .rows + cond (r .ended) 0 1 < g .back .rows + cond (g .ended) 0 1
 unfolding goesOn
 turn-less s g r t k = go (two (r .ended))
   where
@@ -134,7 +134,7 @@ turn-less s g r t k = go (two (r .ended))
     go (inr e) = rw (e, goes) (omega (arith, k .fewer e))
 
 module _ (s : List ℕ) (start : Back) (g : Gathering) (h : Going s start g) where
-  pub going-onward : goesOn g ≡ true → Onward s (g .back)
+  pub going-onward : goesOn g ≡ true → RecordLeft s (g .back)
   unfolding goesOn
   going-onward t =
       let open-ended = and-both (not (g .ended)) (not (eqb (g .back .rows) 0) && not (eqb (g .back .candidate) noParent)) t in
@@ -146,7 +146,7 @@ module _ (s : List ℕ) (start : Back) (g : Gathering) (h : Going s start g) whe
       positive zero k = absurd (k refl)
       positive (suc n) k = omega arith
 
-  pub going-turn : (r : Gathering) → Turned s g r → Going s start r
+  pub going-turn : (r : Gathering) → RecordTaken s g r → Going s start r
   going-turn r k = record {
     reached = k .reached;
     same = k .same ∙ h .same;
@@ -166,8 +166,8 @@ module _ (s : List ℕ) (start : Back) (g : Gathering) (h : Going s start g) whe
   going-end t = record { reached = h .reached; whole = sym (h .same) ∙ whole (stops g t); nothing = λ b. sym (h .same) ∙ nothing b (stops g t); fewer = h .fewer }
     where
       none-left : (g .back .rows ≡ 0) ⊎ (g .back .candidate ≡ noParent) → statesFrom s (g .back) ≡ []
-      none-left (inl e) = ap (map (stateAt (standing s))) (path-ends s (g .back) e)
-      none-left (inr e) = ap (map (stateAt (standing s))) (path-stops s (g .back) e)
+      none-left (inl e) = ap (map (stateAt (rowsIn s))) (path-ends s (g .back) e)
+      none-left (inr e) = ap (map (stateAt (rowsIn s))) (path-stops s (g .back) e)
 
       whole : (g .ended ≡ true) ⊎ ((g .back .rows ≡ 0) ⊎ (g .back .candidate ≡ noParent)) → pending s g ≡ groupsFrom s (g .back) ++ groupRead g
       whole (inl e) = h .ends e .apart ∙ rw (h .ends e .begun)

@@ -7,7 +7,7 @@ use lib.Dec.{eqb}
 use lib.Ieee.{Float, lt}
 use Rattle.journal.specs.WellFormed.{Each}
 use Rattle.groups.specs.declared.group.NetelementGroup.{NetelementGroup}
-use Rattle.groups.specs.Groups.{State, least, greatest, alone, join, before, groups}
+use Rattle.groups.specs.Groups.{State, lesser, greater, alone, withState, before, groups}
 
 -- what is asked of intrinsics, and the highest row
 module _ (P : Float → Type 0) (top : ℕ) where
@@ -48,8 +48,8 @@ module _ (P : Float → Type 0) (top : ℕ) where
     alone-from : GroupFrom n (alone s)
     alone-from = record { from = h .from; order = omega arith; below = h .below; lowest = h .intrinsic; highest = h .intrinsic }
 
-    join-from : (g : NetelementGroup) → GroupFrom (s .row) g → GroupFrom n (join s g)
-    unfolding join least greatest
+    join-from : (g : NetelementGroup) → GroupFrom (s .row) g → GroupFrom n (withState s g)
+    unfolding withState lesser greater
     join-from g k = record {
       from = h .from;
       order = omega (arith, k .from, k .order);
@@ -63,7 +63,7 @@ module _ (P : Float → Type 0) (top : ℕ) where
     before-from [] k = (alone-from, tt)
     before-from (g ∷ gs) k = go (eqb (s .element) (g .element))
       where
-        go : (b : Bool) → Each (GroupFrom n) (cond b (join s g ∷ gs) (alone s ∷ g ∷ gs))
+        go : (b : Bool) → Each (GroupFrom n) (cond b (withState s g ∷ gs) (alone s ∷ g ∷ gs))
         go true = (join-from g (k .0), groups-sooner n (s .row) (h .from) gs (k .1))
         go false = (alone-from, groups-sooner n (s .row) (h .from) (g ∷ gs) k)
 

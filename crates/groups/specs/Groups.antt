@@ -23,22 +23,22 @@ stateOf row c = record { row = row; element = c .element; intrinsic = c .intrins
 abbrev pub stateAt : List Row → ℕ × ℕ → State
 stateAt rs p = stateOf (p .0) (cellOf (rowNumber rs (p .0)) (p .1) .candidate)
 
-unfoldable pub least : Float → Float → Float
-least x y = cond (lt x y) x y
+unfoldable pub lesser : Float → Float → Float
+lesser x y = cond (lt x y) x y
 
-unfoldable pub greatest : Float → Float → Float
-greatest x y = cond (lt x y) y x
+unfoldable pub greater : Float → Float → Float
+greater x y = cond (lt x y) y x
 
 -- a group of one state
 abbrev pub alone : State → NetelementGroup
 alone s = record { element = s .element; «min_intrinsic» = s .intrinsic; «max_intrinsic» = s .intrinsic; «first_row» = s .row; «last_row» = s .row }
 
 -- a group with the state before it
-unfoldable pub join : State → NetelementGroup → NetelementGroup
-join s g = record {
+unfoldable pub withState : State → NetelementGroup → NetelementGroup
+withState s g = record {
   element = g .element;
-  «min_intrinsic» = least (s .intrinsic) (g .«min_intrinsic»);
-  «max_intrinsic» = greatest (s .intrinsic) (g .«max_intrinsic»);
+  «min_intrinsic» = lesser (s .intrinsic) (g .«min_intrinsic»);
+  «max_intrinsic» = greater (s .intrinsic) (g .«max_intrinsic»);
   «first_row» = s .row;
   «last_row» = g .«last_row»;
 }
@@ -46,7 +46,7 @@ join s g = record {
 -- a state before some groups: it joins the first one if that has its element
 unfoldable pub before : State → List NetelementGroup → List NetelementGroup
 before s [] = alone s ∷ []
-before s (g ∷ gs) = cond (eqb (s .element) (g .element)) (join s g ∷ gs) (alone s ∷ g ∷ gs)
+before s (g ∷ gs) = cond (eqb (s .element) (g .element)) (withState s g ∷ gs) (alone s ∷ g ∷ gs)
 
 -- consecutive states of one element make a group
 unfoldable pub groups : List State → List NetelementGroup

@@ -1,3 +1,3 @@
 -- What the contracts of `groups` speak of.
 pub mod Groups
-pub mod Gather
+pub mod inner

@@ -7,8 +7,8 @@ use closing::walk::step_back;
 use rows::previous::NO_PARENT;
 use rows::previous::candidate_of;
 ghost use mathlib.Core.Path.{_≡_};
-ghost use Rattle.closing.specs.Walk.{Reached, Onward};
-ghost use Rattle.groups.specs.Gather.{goesOn, Turned, Gathered};
+ghost use Rattle.closing.specs.inner.Walk.{Reached, RecordLeft};
+ghost use Rattle.groups.specs.inner.Gather.{goesOn, RecordTaken, Gathered};
 
 // A group as far as it was read, and where the walk then stands. `begun`: it has a state. `ended`: the next state is of another element.
 pub struct Gathering {
@@ -34,8 +34,8 @@ fn goes_on(g: Gathering) -> bool
 
 // One record: a row that scores gives a state, which begins the group, joins it, or ends it.
 fn gather_one(journal: &[u32], g: Gathering) -> Gathering
-    requires { ⌜ Onward (now journal) (g .back) ⌝ }
-    ensures { λ r. ⌜ Turned (now (journal .entry)) g r ⌝ }
+    requires { ⌜ RecordLeft (now journal) (g .back) ⌝ }
+    ensures { λ r. ⌜ RecordTaken (now (journal .entry)) g r ⌝ }
 {
     let back = g.back;
     let group = g.group;

@@ -1,7 +1,7 @@
 // A group of states.
 use journal::record::Candidate;
 ghost use mathlib.Core.Path.{_≡_};
-ghost use Rattle.groups.specs.Groups.{stateOf, least, greatest, alone, join};
+ghost use Rattle.groups.specs.Groups.{stateOf, lesser, greater, alone, withState};
 
 // Consecutive states of one element: the least and the greatest intrinsic, the first and the last row.
 pub struct NetelementGroup {
@@ -13,7 +13,7 @@ pub struct NetelementGroup {
 }
 
 fn min(x: f64, y: f64) -> f64
-    ensures { λ r. ⌜ r ≡ least x y ⌝ }
+    ensures { λ r. ⌜ r ≡ lesser x y ⌝ }
 {
     if x < y {
         return x;
@@ -22,7 +22,7 @@ fn min(x: f64, y: f64) -> f64
 }
 
 fn max(x: f64, y: f64) -> f64
-    ensures { λ r. ⌜ r ≡ greatest x y ⌝ }
+    ensures { λ r. ⌜ r ≡ greater x y ⌝ }
 {
     if x < y {
         return y;
@@ -45,7 +45,7 @@ pub fn new_group(row: u32, candidate: Candidate) -> NetelementGroup
 
 // The group with the state before it.
 pub fn update_group(group: NetelementGroup, row: u32, candidate: Candidate) -> NetelementGroup
-    ensures { λ r. ⌜ r ≡ join (stateOf row candidate) group ⌝ }
+    ensures { λ r. ⌜ r ≡ withState (stateOf row candidate) group ⌝ }
 {
     NetelementGroup {
         element: group.element,

@@ -9,12 +9,13 @@ use borrow.Author.Tests.{le-leb, lt-leb}
 use lib.ListN.{length, getD, drop, set, length-append, length-drop}
 use lib.Seq.{drop-cons, getD-at}
 use Rattle.journal.specs.Lists.{flat}
-use Rattle.journal.specs.Row.{Row, size}
+use Rattle.journal.specs.Row.{Row, rowSize}
 use Rattle.journal.specs.Record.{headWord, lengthWord, usedWord, cellWords, distancesWords, recordLength, recordOf}
 use Rattle.journal.specs.Journal.{words, journal, used, readJournal}
 use Rattle.journal.specs.WellFormed.{RowFits, Obey, WellFormed as Formed}
-use Rattle.journal.specs.Check.{latestOf, surveyOf, survey}
-use Rattle.journal.specs.Call.{cut, striking, Standing, endOf}
+use Rattle.journal.specs.inner.Check.{latestOf, surveyOf, survey}
+use Rattle.journal.specs.Call.{recounted, striking}
+use Rattle.journal.specs.inner.Strike.{RowsAtLeast, endOf}
 use Rattle.journal.specs.declared.call.Answer.{Answer}
 use Rattle.journal.specs.declared.call.Answer.the-variants.{Done, Refused}
 use Rattle.journal.specs.declared.check.Predecessor.{Predecessor}
@@ -25,16 +26,16 @@ use Rattle.journal.proofs.WellFormed.{well-formed, used-well}
 -- ---- the last word of a record
 
 front : Row → List ℕ
-front r = headWord (size r) (r .before) ∷ (flat cellWords (r .cells) ++ distancesWords (r .distances))
+front r = headWord (rowSize r) (r .before) ∷ (flat cellWords (r .cells) ++ distancesWords (r .distances))
 
-record-ends : (r : Row) → recordOf r ≡ front r ++ (lengthWord (recordLength (size r) (r .before)) ∷ [])
+record-ends : (r : Row) → recordOf r ≡ front r ++ (lengthWord (recordLength (rowSize r) (r .before)) ∷ [])
 unfolding recordOf front
-record-ends r = ap (λ (l : List ℕ). headWord (size r) (r .before) ∷ l) (sym (append-assoc (flat cellWords (r .cells)) (distancesWords (r .distances)) (lengthWord (recordLength (size r) (r .before)) ∷ [])))
+record-ends r = ap (λ (l : List ℕ). headWord (rowSize r) (r .before) ∷ l) (sym (append-assoc (flat cellWords (r .cells)) (distancesWords (r .distances)) (lengthWord (recordLength (rowSize r) (r .before)) ∷ [])))
 
 -- stands before what follows the record
 last-at : (r : Row) (w : ℕ) (xs ys : List ℕ) → RowFits r → getD (w ∷ ((xs ++ recordOf r) ++ ys)) (length (xs ++ recordOf r)) 0 ≡ lengthWord (length (recordOf r))
 last-at r w xs ys f =
-    let l = lengthWord (recordLength (size r) (r .before)) in
+    let l = lengthWord (recordLength (rowSize r) (r .before)) in
     let same : w ∷ ((xs ++ recordOf r) ++ ys) ≡ (w ∷ (xs ++ front r)) ++ (l ∷ ys) = rw (record-ends r, ← append-assoc xs (front r) (l ∷ []), append-assoc (xs ++ front r) (l ∷ []) ys) in
     let long : length (w ∷ (xs ++ front r)) ≡ length (xs ++ recordOf r) = rw (record-ends r) (simp length-append (omega arith)) in
     ap (λ (z : List ℕ). getD z (length (xs ++ recordOf r)) 0) same
@@ -87,10 +88,10 @@ module _ (s : List ℕ) (rs : List Row) (e : readJournal s ≡ some rs) where
 
 -- n rows to go back over, k of them done, at this place
 pub record Ended (s : List ℕ) (n k at : ℕ) : Type 0 where
-  pub stand : Standing s n
+  pub stand : RowsAtLeast s n
   pub placed : at ≡ suc (length (words (drop k (stand .rows))))
 
-pub ended-start : (s : List ℕ) (n : ℕ) → Standing s n → Ended s n 0 (used s)
+pub ended-start : (s : List ℕ) (n : ℕ) → RowsAtLeast s n → Ended s n 0 (used s)
 ended-start s n st = record { stand = st; placed = used-well s (st .rows) (formed s (st .rows) (st .reads)) }
 
 module _ (s : List ℕ) (n k at : ℕ) (d : Ended s n k at) (more : k < n) where
@@ -112,7 +113,7 @@ pub ended-done : (s : List ℕ) (n k at : ℕ) → Ended s n k at → k ≡ n �
 unfolding endOf
 ended-done s n k at d e = d .placed ∙ rw (e, d .stand .reads)
 
-pub end-small : (s : List ℕ) (n : ℕ) → Standing s n → endOf s n < 268435456
+pub end-small : (s : List ℕ) (n : ℕ) → RowsAtLeast s n → endOf s n < 268435456
 unfolding endOf
 end-small s n st =
     let w = formed s (st .rows) (st .reads) in
@@ -154,7 +155,7 @@ unfolding striking
 struck-not s n e = rw (survey-no s e) (refl, refl)
 
 module _ (s : List ℕ) (n rows u : ℕ) (p : Predecessor) (e : survey s ≡ WellFormed rows u p) where
-  pub struck-stand : n ≤ rows → Standing s n
+  pub struck-stand : n ≤ rows → RowsAtLeast s n
   struck-stand h = let r = survey-rows s rows u p e in record { rows = r .rows; reads = r .reads; enough = omega (arith, r .counted) }
 
   pub struck-more : rows < n → Struck s n (Refused 13) s
@@ -165,7 +166,7 @@ module _ (s : List ℕ) (n rows u : ℕ) (p : Predecessor) (e : survey s ≡ Wel
       rw (r .reads, lt-leb n (length (r .rows)) l) (refl, refl)
 
   pub struck-done : n ≤ rows → (end : ℕ) → end ≡ endOf s n → Struck s n Done (set s 0 (0x50000000 + end))
-  unfolding striking cut endOf
+  unfolding striking recounted endOf
   struck-done h end q =
       let r = survey-rows s rows u p e in
       let l : n ≤ length (r .rows) = omega (arith, r .counted) in

@@ -11,7 +11,7 @@ use lib.Dec.{T, eqb, eqb→eq, eqb-refl}
 use lib.ListN.{length, getD, set, drop, length-append}
 use lib.Seq.{getD-set-same, getD-set-other}
 use lib.Ieee.Fits.{and-i, and-l, and-r}
-use Rattle.journal.specs.Lists.{all, flat, number, starts}
+use Rattle.journal.specs.Lists.{each, flat, number, starts}
 use Rattle.journal.specs.WellFormed.{Each}
 
 -- ---- tests
@@ -28,14 +28,14 @@ some-none {A = A} {a = a} e = absurd (omega (arith, zero-one))
 
 -- ---- every entry
 
-pub all-at : {A : Type 0} (test : A → Bool) (l : List A) (i : ℕ) (d : A) → T (all test l) → i < length l → T (test (getD l i d))
+pub all-at : {A : Type 0} (test : A → Bool) (l : List A) (i : ℕ) (d : A) → T (each test l) → i < length l → T (test (getD l i d))
 all-at test [] i d h k = absurd (omega arith)
-all-at test (a ∷ l) zero d h k = and-l (test a) (all test l) h
-all-at test (a ∷ l) (suc i) d h k = all-at test l i d (and-r (test a) (all test l) h) (omega arith)
+all-at test (a ∷ l) zero d h k = and-l (test a) (each test l) h
+all-at test (a ∷ l) (suc i) d h k = all-at test l i d (and-r (test a) (each test l) h) (omega arith)
 
-pub all-intro : {A : Type 0} (test : A → Bool) (l : List A) (d : A) → ((i : ℕ) → i < length l → T (test (getD l i d))) → T (all test l)
+pub all-intro : {A : Type 0} (test : A → Bool) (l : List A) (d : A) → ((i : ℕ) → i < length l → T (test (getD l i d))) → T (each test l)
 all-intro test [] d h = tt
-all-intro test (a ∷ l) d h = and-i (test a) (all test l) (h 0 (omega arith)) (all-intro test l d (λ i k. h (suc i) (omega arith)))
+all-intro test (a ∷ l) d h = and-i (test a) (each test l) (h 0 (omega arith)) (all-intro test l d (λ i k. h (suc i) (omega arith)))
 
 pub each-intro : {A : Type 0} (P : A → Type 0) (l : List A) (d : A) → ((i : ℕ) → i < length l → P (getD l i d)) → Each P l
 each-intro P [] d h = tt
@@ -53,9 +53,9 @@ each-inside P [] i d h k = absurd (omega arith)
 each-inside P (a ∷ l) zero d h k = h .0
 each-inside P (a ∷ l) (suc i) d h k = each-inside P l i d (h .1) (omega arith)
 
-pub all-each : {A : Type 0} (test : A → Bool) (l : List A) → T (all test l) → Each (λ a. T (test a)) l
+pub all-each : {A : Type 0} (test : A → Bool) (l : List A) → T (each test l) → Each (λ a. T (test a)) l
 all-each test [] h = tt
-all-each test (a ∷ l) h = (and-l (test a) (all test l) h, all-each test l (and-r (test a) (all test l) h))
+all-each test (a ∷ l) h = (and-l (test a) (each test l) h, all-each test l (and-r (test a) (each test l) h))
 
 pub each-append : {A : Type 0} (P : A → Type 0) (l m : List A) → Each P l → Each P m → Each P (l ++ m)
 each-append P [] m h k = k

@@ -13,16 +13,16 @@ use lib.Ieee.{Float, binary64, toBits, ofBits}
 use lib.Ieee.Bits.{ofBits-toBits, toBits-lt}
 use lib.Ieee.Fits.{and-i, eq→eqb}
 use Rattle.journal.specs.Lists.{flat, starts}
-use Rattle.journal.specs.Row.{Cell, Row, size, scores, predecessor, sizeOf, beforeOf}
+use Rattle.journal.specs.Row.{Cell, Row, rowSize, scores, predecessor, sizeOf, beforeOf}
 use Rattle.journal.specs.Ranges.{candidateLimit, rowLimit}
-use Rattle.journal.specs.Record.{headWord, candidateWord, distancesWord, lengthWord, usedWord, high, low, cellWords, floatWords, recordLength, recordOf, readFloat, readCell, readDistance, readEach, headCount, headBefore, readRow}
+use Rattle.journal.specs.Record.{headWord, candidateWord, distancesWord, lengthWord, usedWord, highHalf, lowHalf, cellWords, floatWords, recordLength, recordOf, readFloat, readCell, readDistance, readEach, headCount, headBefore, readRow}
 use Rattle.journal.specs.Journal.{words, journal, rowOk, recordOk, readRows, used, usedWords, readJournal}
 use Rattle.journal.specs.WellFormed.{Each, Fitting, CellFits, RowFits, Obey}
 use Rattle.journal.proofs.Lists.{cond-true, some-none, each-append, length-flat, starts-self}
 
 -- ---- a field
 
-read-float : (x : Float) → Fitting x → readFloat (high x) (low x) ≡ x
+read-float : (x : Float) → Fitting x → readFloat (highHalf x) (lowHalf x) ≡ x
 read-float x h = ap (λ (n : ℕ). ofBits binary64 n) (div-add-mod' (toBits binary64 x) 4294967296) ∙ ofBits-toBits binary64 x h
 
 module _ (e n p : ℕ) (a : e < 1024) (b : n < 2) (c : p < 32) where
@@ -76,7 +76,7 @@ pub length-floats : (xs : List Float) → length (flat floatWords xs) ≡ 2 * le
 length-floats xs = length-flat 2 floatWords (λ x. refl) xs
 
 -- document 01's record length is the number of its words
-pub length-record : (r : Row) → length (r .distances) ≡ size r * r .before → length (recordOf r) ≡ recordLength (size r) (r .before)
+pub length-record : (r : Row) → length (r .distances) ≡ rowSize r * r .before → length (recordOf r) ≡ recordLength (rowSize r) (r .before)
 unfolding recordOf recordLength
 length-record r h = simp length-append (omega (arith, length-cells (r .cells), length-floats (r .distances)))
 
@@ -93,14 +93,14 @@ parts w body c p e f = rw (e, f)
 
 module _ (r : Row) (h : RowFits r) (ws : List ℕ) where
   end : List ℕ
-  end = lengthWord (recordLength (size r) (r .before)) ∷ []
+  end = lengthWord (recordLength (rowSize r) (r .before)) ∷ []
 
   -- past the cells
   past : List ℕ
   unfolding end
   past = distancesWord (length (r .distances)) ∷ (flat floatWords (r .distances) ++ (end ++ ws))
 
-  body-is : recordOf r ++ ws ≡ headWord (size r) (r .before) ∷ (flat cellWords (r .cells) ++ past)
+  body-is : recordOf r ++ ws ≡ headWord (rowSize r) (r .before) ∷ (flat cellWords (r .cells) ++ past)
   unfolding recordOf past end
   body-is = rw (
     append-assoc (flat cellWords (r .cells)) (distancesWord (length (r .distances)) ∷ (flat floatWords (r .distances) ++ end)) ws,
@@ -110,8 +110,8 @@ module _ (r : Row) (h : RowFits r) (ws : List ℕ) where
   pub read-row : readRow (recordOf r ++ ws) ≡ r
   read-row =
       ap (λ (l : List ℕ). readRow l) body-is
-      ∙ parts (headWord (size r) (r .before)) (flat cellWords (r .cells) ++ past) (size r) (r .before) (word-count (size r) (r .before) (h .few) (h .few-before)) (word-before (size r) (r .before) (h .few) (h .few-before))
-      ∙ rw (read-cells (r .cells) past (h .cells), drop-at (flat cellWords (r .cells)) past (7 * size r) (length-cells (r .cells)), ← h .number)
+      ∙ parts (headWord (rowSize r) (r .before)) (flat cellWords (r .cells) ++ past) (rowSize r) (r .before) (word-count (rowSize r) (r .before) (h .few) (h .few-before)) (word-before (rowSize r) (r .before) (h .few) (h .few-before))
+      ∙ rw (read-cells (r .cells) past (h .cells), drop-at (flat cellWords (r .cells)) past (7 * rowSize r) (length-cells (r .cells)), ← h .number)
       (ap (λ (l : List Float). back l) (unfold past in read-floats (r .distances) (end ++ ws) (h .distances)))
     where
       back : List Float → Row
@@ -239,7 +239,7 @@ module _ (rs : List Row) (rest : List ℕ) (h : Obey rs) (l : length rs ≤ rowL
 abbrev pub Word : ℕ → Type 0
 Word w = w < 4294967296
 
-float-words : (x : Float) → Fitting x → Word (high x) × Word (low x)
+float-words : (x : Float) → Fitting x → Word (highHalf x) × Word (lowHalf x)
 float-words x h = (omega (arith, toBits-lt binary64 x h), omega arith)
 
 cells-words : (cs : List Cell) → Each CellFits cs → Each Word (flat cellWords cs)
@@ -259,11 +259,11 @@ pub record-words : (r : Row) → RowFits r → Each Word (recordOf r)
 unfolding recordOf recordLength
 record-words r h =
     let product = mul-le-mul (h .few) (h .few-before) in
-    let head : Word (headWord (size r) (r .before)) = omega (arith, h .few, h .few-before) in
+    let head : Word (headWord (rowSize r) (r .before)) = omega (arith, h .few, h .few-before) in
     let middle : Word (distancesWord (length (r .distances))) = omega (arith, h .number, product) in
-    let last : Word (lengthWord (recordLength (size r) (r .before))) = omega (arith, h .few, product) in (
+    let last : Word (lengthWord (recordLength (rowSize r) (r .before))) = omega (arith, h .few, product) in (
       head,
-      each-append Word (flat cellWords (r .cells)) (distancesWord (length (r .distances)) ∷ (flat floatWords (r .distances) ++ (lengthWord (recordLength (size r) (r .before)) ∷ [])))
+      each-append Word (flat cellWords (r .cells)) (distancesWord (length (r .distances)) ∷ (flat floatWords (r .distances) ++ (lengthWord (recordLength (rowSize r) (r .before)) ∷ [])))
           (cells-words (r .cells) (h .cells))
-          (middle, each-append Word (flat floatWords (r .distances)) (lengthWord (recordLength (size r) (r .before)) ∷ []) (floats-words (r .distances) (h .distances)) (last, tt)),
+          (middle, each-append Word (flat floatWords (r .distances)) (lengthWord (recordLength (rowSize r) (r .before)) ∷ []) (floats-words (r .distances) (h .distances)) (last, tt)),
     )

@@ -9,13 +9,13 @@ use lib.ListN.{length, getD, drop}
 use lib.Seq.{drop-drop}
 use lib.Ieee.{Float}
 use lib.Ieee.Scale.{finite}
-use Rattle.lists.specs.Loops.{any}
+use Rattle.lists.specs.Loops.{anyBelow}
 use Rattle.lists.proofs.Loops.{any-same}
-use Rattle.journal.specs.Row.{Cell, Row, noCell, size, cellOf, scoreOf, scores, beforeOf}
+use Rattle.journal.specs.Row.{Cell, Row, noCell, rowSize, cellOf, scoreOf, scores, beforeOf}
 use Rattle.journal.specs.Ranges.{candidateLimit}
 use Rattle.journal.specs.Record.{recordLength, recordOf, floatAt, readCell, readDistance, headCount, headBefore, readRow}
 use Rattle.journal.specs.Journal.{rowOk}
-use Rattle.journal.specs.Check.{pick, wellRead, bodyReads, recordAt}
+use Rattle.journal.specs.inner.Check.{whether, wellRead, bodyReads, recordAt}
 use Rattle.journal.specs.declared.read.Record.{Record}
 use Rattle.journal.specs.declared.read.Record.the-variants.{Bad, Whole}
 use Rattle.journal.proofs.Reading.{length-record}
@@ -24,28 +24,28 @@ use Rattle.journal.proofs.Records.{length-each, getD-each, rowAt, row-i
 
 -- ---- the fields of the row that is read, by their places
 
-pub row-size : (ws : List ℕ) → size (readRow ws) ≡ headCount (getD ws 0 0)
+pub row-size : (ws : List ℕ) → rowSize (readRow ws) ≡ headCount (getD ws 0 0)
 unfolding readRow
 row-size ws = length-each readCell 7 (headCount (getD ws 0 0)) (drop 1 ws)
 
-pub row-cell : (ws : List ℕ) (k : ℕ) → k < size (readRow ws) → cellOf (readRow ws) k ≡ readCell (drop (1 + 7 * k) ws)
+pub row-cell : (ws : List ℕ) (k : ℕ) → k < rowSize (readRow ws) → cellOf (readRow ws) k ≡ readCell (drop (1 + 7 * k) ws)
 unfolding readRow
 row-cell ws k h =
     let l : k < headCount (getD ws 0 0) = omega (arith, length-each readCell 7 (headCount (getD ws 0 0)) (drop 1 ws)) in
     getD-each readCell 7 (headCount (getD ws 0 0)) (drop 1 ws) k noCell l ∙ ap readCell (drop-drop (7 * k) 1 ws)
 
-pub row-score : (ws : List ℕ) (k : ℕ) → k < size (readRow ws) → scoreOf (readRow ws) k ≡ floatAt ws (6 + 7 * k)
+pub row-score : (ws : List ℕ) (k : ℕ) → k < rowSize (readRow ws) → scoreOf (readRow ws) k ≡ floatAt ws (6 + 7 * k)
 row-score ws k h =
     let plus : 1 + 7 * k + 5 ≡ 6 + 7 * k = omega arith in
     ap (λ (c : Cell). c .score) (row-cell ws k h) ∙ drop-float (1 + 7 * k) 5 ws ∙ ap (floatAt ws) plus
 
-pub row-distance : (ws : List ℕ) (d : Float) (k : ℕ) → k < size (readRow ws) * readRow ws .before → getD (readRow ws .distances) k d ≡ floatAt ws (2 + 7 * size (readRow ws) + 2 * k)
+pub row-distance : (ws : List ℕ) (d : Float) (k : ℕ) → k < rowSize (readRow ws) * readRow ws .before → getD (readRow ws .distances) k d ≡ floatAt ws (2 + 7 * rowSize (readRow ws) + 2 * k)
 unfolding readRow
 row-distance ws d k h =
     let c = headCount (getD ws 0 0) in
     let p = headBefore (getD ws 0 0) in
     let l : k < c * p = rw (row-size ws) at h in
-    let place : 1 + 7 * c + 1 + 2 * k + 0 ≡ 2 + 7 * size (readRow ws) + 2 * k = omega (arith, row-size ws) in
+    let place : 1 + 7 * c + 1 + 2 * k + 0 ≡ 2 + 7 * rowSize (readRow ws) + 2 * k = omega (arith, row-size ws) in
     getD-each readDistance 2 (c * p) (drop 1 (drop (7 * c) (drop 1 ws))) k d l
     ∙ ap readDistance (
     ap (λ (xs : List ℕ). drop (2 * k) (drop 1 xs)) (drop-drop (7 * c) 1 ws)
@@ -56,20 +56,20 @@ row-distance ws d k h =
 
 -- ---- what the row reader finds
 
-pick-and : {A : Type 0} (a b : Bool) (x y : A) → pick (a && b) x y ≡ pick a (pick b x y) y
-unfolding pick
+pick-and : {A : Type 0} (a b : Bool) (x y : A) → whether (a && b) x y ≡ whether a (whether b x y) y
+unfolding whether
 pick-and true b x y = refl
 pick-and false b x y = refl
 
 pub record-none : (q n : ℕ) (ws : List ℕ) → length ws ≡ 0 → recordAt q n ws ≡ Bad
-record-none q n [] e = unfold recordAt wellRead recordOf pick in refl
+record-none q n [] e = unfold recordAt wellRead recordOf whether in refl
 record-none q n (w ∷ ws) e = absurd (omega arith)
 
 -- its scores
-scores-at : (w : ℕ) (body : List ℕ) → scores (rowAt w body) ≡ any (headCount w) (λ k. finite (floatAt (w ∷ body) (6 + 7 * k)))
+scores-at : (w : ℕ) (body : List ℕ) → scores (rowAt w body) ≡ anyBelow (headCount w) (λ k. finite (floatAt (w ∷ body) (6 + 7 * k)))
 unfolding scores readRow
 scores-at w body =
-    ap (λ (m : ℕ). any m (λ i. finite (scoreOf (rowAt w body) i))) (size-is w body)
+    ap (λ (m : ℕ). anyBelow m (λ i. finite (scoreOf (rowAt w body) i))) (size-is w body)
     ∙ any-same (headCount w) (λ i. finite (scoreOf (rowAt w body) i)) (λ k. finite (floatAt (w ∷ body) (6 + 7 * k)))
     (λ k h. ap finite (row-score (w ∷ body) k (omega (arith, size-is w body))))
 
@@ -79,19 +79,19 @@ length-at w body =
     ∙ ap (λ (k : ℕ). recordLength k (headBefore w)) (size-is w body)
 
 abbrev pub found : ℕ → ℕ → List ℕ → Record
-found c p ws = Whole (recordLength c p) c (any c (λ k. finite (floatAt ws (6 + 7 * k))))
+found c p ws = Whole (recordLength c p) c (anyBelow c (λ k. finite (floatAt ws (6 + 7 * k))))
 
-found-at : (w : ℕ) (body : List ℕ) → Whole (length (recordOf (rowAt w body))) (size (rowAt w body)) (scores (rowAt w body)) ≡ found (headCount w) (headBefore w) (w ∷ body)
+found-at : (w : ℕ) (body : List ℕ) → Whole (length (recordOf (rowAt w body))) (rowSize (rowAt w body)) (scores (rowAt w body)) ≡ found (headCount w) (headBefore w) (w ∷ body)
 found-at w body = cc (length-at w body, size-is w body, scores-at w body)
 
 -- test by test
 pub record-at : (q n : ℕ) (ws : List ℕ) → 0 < length ws
     → recordAt q n ws
-    ≡ pick (eqb (getD ws 0 0 / 1024) 262144)
-    (pick (leb (headCount (getD ws 0 0)) candidateLimit)
-    (pick (eqb (headBefore (getD ws 0 0)) (beforeOf q (headCount (getD ws 0 0))))
-    (pick (leb (recordLength (headCount (getD ws 0 0)) (headBefore (getD ws 0 0))) (length ws))
-    (pick (bodyReads (headCount (getD ws 0 0)) (headBefore (getD ws 0 0)) n ws) (found (headCount (getD ws 0 0)) (headBefore (getD ws 0 0)) ws) Bad)
+    ≡ whether (eqb (getD ws 0 0 / 1024) 262144)
+    (whether (leb (headCount (getD ws 0 0)) candidateLimit)
+    (whether (eqb (headBefore (getD ws 0 0)) (beforeOf q (headCount (getD ws 0 0))))
+    (whether (leb (recordLength (headCount (getD ws 0 0)) (headBefore (getD ws 0 0))) (length ws))
+    (whether (bodyReads (headCount (getD ws 0 0)) (headBefore (getD ws 0 0)) n ws) (found (headCount (getD ws 0 0)) (headBefore (getD ws 0 0)) ws) Bad)
     Bad)
     Bad)
     Bad)
@@ -103,17 +103,17 @@ record-at q n (w ∷ body) h =
     let r = found c p (w ∷ body) in
     let b3 = leb (recordLength c p) (suc (length body)) in
     let b4 = bodyReads c p n (w ∷ body) in
-    let whole : recordAt q n (w ∷ body) ≡ pick (wellRead recordOf readRow (rowOk q n) (w ∷ body)) (Whole (length (recordOf (readRow (w ∷ body)))) (size (readRow (w ∷ body))) (scores (readRow (w ∷ body)))) Bad = unfold recordAt in refl in
+    let whole : recordAt q n (w ∷ body) ≡ whether (wellRead recordOf readRow (rowOk q n) (w ∷ body)) (Whole (length (recordOf (readRow (w ∷ body)))) (rowSize (readRow (w ∷ body))) (scores (readRow (w ∷ body)))) Bad = unfold recordAt in refl in
     whole
-    ∙ ap (λ (x : Row). pick (wellRead recordOf readRow (rowOk q n) (w ∷ body)) (Whole (length (recordOf x)) (size x) (scores x)) Bad) (row-is w body)
-    ∙ ap (λ (x : Record). pick (wellRead recordOf readRow (rowOk q n) (w ∷ body)) x Bad) (found-at w body)
-    ∙ ap (λ (b : Bool). pick b r Bad) (record-test q n w body)
+    ∙ ap (λ (x : Row). whether (wellRead recordOf readRow (rowOk q n) (w ∷ body)) (Whole (length (recordOf x)) (rowSize x) (scores x)) Bad) (row-is w body)
+    ∙ ap (λ (x : Record). whether (wellRead recordOf readRow (rowOk q n) (w ∷ body)) x Bad) (found-at w body)
+    ∙ ap (λ (b : Bool). whether b r Bad) (record-test q n w body)
     ∙ pick-and (eqb (w / 1024) 262144) (leb c candidateLimit && (eqb p (beforeOf q c) && (b3 && b4))) r Bad
-    ∙ ap (λ (x : Record). pick (eqb (w / 1024) 262144) x Bad)
+    ∙ ap (λ (x : Record). whether (eqb (w / 1024) 262144) x Bad)
     (pick-and (leb c candidateLimit) (eqb p (beforeOf q c) && (b3 && b4)) r Bad
-    ∙ ap (λ (x : Record). pick (leb c candidateLimit) x Bad)
+    ∙ ap (λ (x : Record). whether (leb c candidateLimit) x Bad)
     (pick-and (eqb p (beforeOf q c)) (b3 && b4) r Bad
-    ∙ ap (λ (x : Record). pick (eqb p (beforeOf q c)) x Bad) (pick-and b3 b4 r Bad)))
+    ∙ ap (λ (x : Record). whether (eqb p (beforeOf q c)) x Bad) (pick-and b3 b4 r Bad)))
 
 -- by what each test gives
 pub record-by : (q n : ℕ) (ws : List ℕ) (a b d e f : Bool) → 0 < length ws
@@ -122,5 +122,5 @@ pub record-by : (q n : ℕ) (ws : List ℕ) (a b d e f : Bool) → 0 < length ws
     → eqb (headBefore (getD ws 0 0)) (beforeOf q (headCount (getD ws 0 0))) ≡ d
     → leb (recordLength (headCount (getD ws 0 0)) (headBefore (getD ws 0 0))) (length ws) ≡ e
     → bodyReads (headCount (getD ws 0 0)) (headBefore (getD ws 0 0)) n ws ≡ f
-    → pick a (pick b (pick d (pick e (pick f (found (headCount (getD ws 0 0)) (headBefore (getD ws 0 0)) ws) Bad) Bad) Bad) Bad) Bad ≡ recordAt q n ws
+    → whether a (whether b (whether d (whether e (whether f (found (headCount (getD ws 0 0)) (headBefore (getD ws 0 0)) ws) Bad) Bad) Bad) Bad) Bad ≡ recordAt q n ws
 record-by q n ws a b d e f h i j k l m = sym (record-at q n ws h ∙ rw (i, j, k, l, m))

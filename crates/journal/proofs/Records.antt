@@ -10,15 +10,15 @@ use lib.ListN.{length, getD, drop, length-drop}
 use lib.Seq.{drop-drop}
 use lib.Ieee.{Float}
 use lib.Ieee.Fits.{and-i, and-l, and-r, eq→eqb}
-use Rattle.lists.specs.Loops.{every}
+use Rattle.lists.specs.Loops.{everyBelow}
 use Rattle.lists.proofs.Loops.{and-assoc, every-front, every-same}
 use Rattle.binary64.proofs.Order.{same-test}
-use Rattle.journal.specs.Lists.{all, flat, starts}
-use Rattle.journal.specs.Row.{Cell, Row, size, beforeOf}
+use Rattle.journal.specs.Lists.{each, flat, starts}
+use Rattle.journal.specs.Row.{Cell, Row, rowSize, beforeOf}
 use Rattle.journal.specs.Ranges.{candidateLimit, distanceOk, cellOk}
 use Rattle.journal.specs.Record.{headWord, distancesWord, lengthWord, cellWords, floatWords, recordLength, recordOf, readCell, readDistance, readEach, headCount, headBefore, readRow}
 use Rattle.journal.specs.Journal.{rowOk}
-use Rattle.journal.specs.Check.{wellRead, bodyReads}
+use Rattle.journal.specs.inner.Check.{wellRead, bodyReads}
 use Rattle.journal.proofs.Rules.{four, of-four, five, of-five, row-rules, rules-row}
 use Rattle.journal.proofs.Reading.{length-cells, length-floats}
 use Rattle.journal.proofs.Tests.{drop-first}
@@ -59,9 +59,9 @@ module _ {A : Type 0} (read : List ℕ → A) (m : ℕ) where
 
   -- their words stand there and each passes: so it is of each
   each-test : (part : A → List ℕ) (test : A → Bool) → ((a : A) → length (part a) ≡ m) → (n : ℕ) (ws : List ℕ)
-      → starts (flat part (readEach read m n ws)) ws && all test (readEach read m n ws) ≡ every n (λ k. wellRead part read test (drop (m * k) ws))
+      → starts (flat part (readEach read m n ws)) ws && each test (readEach read m n ws) ≡ everyBelow n (λ k. wellRead part read test (drop (m * k) ws))
   unfolding readEach
-  each-test part test h zero ws = unfold every in refl
+  each-test part test h zero ws = unfold everyBelow in refl
   each-test part test h (suc n) ws =
       let first = read ws in
       let rest = readEach read m n (drop m ws) in
@@ -69,12 +69,12 @@ module _ {A : Type 0} (read : List ℕ → A) (m : ℕ) where
       = starts-append (part first) (flat part rest) ws ∙ ap (λ (k : ℕ). starts (part first) ws && starts (flat part rest) (drop k ws)) (h first) in
       let is : starts (part first) ws && test first ≡ wellRead part read test ws = unfold wellRead in refl in
       let here : wellRead part read test ws ≡ wellRead part read test (drop (m * 0) ws) = ap (λ (k : ℕ). wellRead part read test (drop k ws)) (sym (mul-zero m)) in
-      let there : every n (λ k. wellRead part read test (drop (m * k) (drop m ws))) ≡ every n (λ k. wellRead part read test (drop (m * suc k) ws))
+      let there : everyBelow n (λ k. wellRead part read test (drop (m * k) (drop m ws))) ≡ everyBelow n (λ k. wellRead part read test (drop (m * suc k) ws))
       = every-same n (λ k. wellRead part read test (drop (m * k) (drop m ws))) (λ k. wellRead part read test (drop (m * suc k) ws)) (λ k. ap (wellRead part read test) (further k ws)) in
-      ap (λ (b : Bool). b && (test first && all test rest)) begun
-      ∙ crossed (starts (part first) ws) (starts (flat part rest) (drop m ws)) (test first) (all test rest)
+      ap (λ (b : Bool). b && (test first && each test rest)) begun
+      ∙ crossed (starts (part first) ws) (starts (flat part rest) (drop m ws)) (test first) (each test rest)
       ∙ ap (λ (b : Bool). (starts (part first) ws && test first) && b) (each-test part test h n (drop m ws) ∙ there)
-      ∙ ap (λ (b : Bool). b && every n (λ k. wellRead part read test (drop (m * suc k) ws))) (is ∙ here)
+      ∙ ap (λ (b : Bool). b && everyBelow n (λ k. wellRead part read test (drop (m * suc k) ws))) (is ∙ here)
       ∙ sym (every-front n (λ k. wellRead part read test (drop (m * k) ws)))
 
 -- ---- one word
@@ -107,7 +107,7 @@ module _ (w : ℕ) (body : List ℕ) where
   unfolding readRow
   row-is = refl
 
-  pub size-is : size (rowAt w body) ≡ headCount w
+  pub size-is : rowSize (rowAt w body) ≡ headCount w
   size-is = length-each readCell 7 (headCount w) body
 
   pub number-is : length (distancesAt w body) ≡ headCount w * headBefore w
@@ -166,15 +166,15 @@ module _ (w : ℕ) (body : List ℕ) where
       ∙ ap (λ (l : List ℕ). starts fs (drop 1 (gapAt w body)) && starts (last ∷ []) l) end-is)))
 
   -- its cells, and its distances, word by word
-  cells-test : (n : ℕ) → starts (flat cellWords (cellsAt w body)) body && all (cellOk (headBefore w) n) (cellsAt w body)
-      ≡ every (headCount w) (λ k. wellRead cellWords readCell (cellOk (headBefore w) n) (drop (1 + 7 * k) (w ∷ body)))
+  cells-test : (n : ℕ) → starts (flat cellWords (cellsAt w body)) body && each (cellOk (headBefore w) n) (cellsAt w body)
+      ≡ everyBelow (headCount w) (λ k. wellRead cellWords readCell (cellOk (headBefore w) n) (drop (1 + 7 * k) (w ∷ body)))
   cells-test n =
       each-test readCell 7 cellWords (cellOk (headBefore w) n) (λ c. refl) (headCount w) body
       ∙ every-same (headCount w) (λ k. wellRead cellWords readCell (cellOk (headBefore w) n) (drop (7 * k) body)) (λ k. wellRead cellWords readCell (cellOk (headBefore w) n) (drop (1 + 7 * k) (w ∷ body)))
       (λ k. ap (wellRead cellWords readCell (cellOk (headBefore w) n)) (drop-drop (7 * k) 1 (w ∷ body)))
 
-  distances-test : starts (flat floatWords (distancesAt w body)) (drop 1 (gapAt w body)) && all distanceOk (distancesAt w body)
-      ≡ every (headCount w * headBefore w) (λ k. wellRead floatWords readDistance distanceOk (drop (1 + 7 * headCount w + 1 + 2 * k) (w ∷ body)))
+  distances-test : starts (flat floatWords (distancesAt w body)) (drop 1 (gapAt w body)) && each distanceOk (distancesAt w body)
+      ≡ everyBelow (headCount w * headBefore w) (λ k. wellRead floatWords readDistance distanceOk (drop (1 + 7 * headCount w + 1 + 2 * k) (w ∷ body)))
   distances-test =
       each-test readDistance 2 floatWords distanceOk (λ x. refl) (headCount w * headBefore w) (drop 1 (gapAt w body))
       ∙ every-same (headCount w * headBefore w) (λ k. wellRead floatWords readDistance distanceOk (drop (2 * k) (drop 1 (gapAt w body))))
@@ -183,9 +183,9 @@ module _ (w : ℕ) (body : List ℕ) where
 
 -- where all but the last word pass, the last word decides
 pub body-last : (c p n : ℕ) (ws : List ℕ) (l m : ℕ) → l ≡ recordLength c p → m ≡ c * p
-    → every c (λ k. wellRead cellWords readCell (cellOk p n) (drop (1 + 7 * k) ws)) ≡ true
+    → everyBelow c (λ k. wellRead cellWords readCell (cellOk p n) (drop (1 + 7 * k) ws)) ≡ true
     → eqb (getD ws (1 + 7 * c) 0) (distancesWord m) ≡ true
-    → every m (λ k. wellRead floatWords readDistance distanceOk (drop (1 + 7 * c + 1 + 2 * k) ws)) ≡ true
+    → everyBelow m (λ k. wellRead floatWords readDistance distanceOk (drop (1 + 7 * c + 1 + 2 * k) ws)) ≡ true
     → eqb (getD ws (l - 1) 0) (lengthWord l) ≡ bodyReads c p n ws
 unfolding bodyReads
 body-last c p n ws l m e f a b d = rw (← e, ← f, a, b, d)
@@ -227,10 +227,10 @@ module _ (q n w : ℕ) (body : List ℕ) where
       (le→leb c candidateLimit few)
       (eq→eqb (rules .before ∙ ap (beforeOf q) (size-is w body)))
       (le→leb (recordLength c p) (length ws) room)
-      (of-four (every c (λ k. wellRead cellWords readCell (cellOk p n) (drop (1 + 7 * k) ws))) (eqb (getD ws (1 + 7 * c) 0) d) (every (c * p) (λ k. wellRead floatWords readDistance distanceOk (drop (1 + 7 * c + 1 + 2 * k) ws))) (eqb (getD ws (recordLength c p - 1) 0) l)
-      (subst T (cells-test w body n) (and-i (starts (flat cellWords (cellsAt w body)) body) (all (cellOk p n) (cellsAt w body)) (s .1) (rules .cells)))
+      (of-four (everyBelow c (λ k. wellRead cellWords readCell (cellOk p n) (drop (1 + 7 * k) ws))) (eqb (getD ws (1 + 7 * c) 0) d) (everyBelow (c * p) (λ k. wellRead floatWords readDistance distanceOk (drop (1 + 7 * c + 1 + 2 * k) ws))) (eqb (getD ws (recordLength c p - 1) 0) l)
+      (subst T (cells-test w body n) (and-i (starts (flat cellWords (cellsAt w body)) body) (each (cellOk p n) (cellsAt w body)) (s .1) (rules .cells)))
       (eq→eqb (sym (drop-first (1 + 7 * c) ws) ∙ middle .1))
-      (subst T (distances-test w body) (and-i (starts (flat floatWords (distancesAt w body)) (drop 1 (gapAt w body))) (all distanceOk (distancesAt w body)) (s .3) (rules .distances)))
+      (subst T (distances-test w body) (and-i (starts (flat floatWords (distancesAt w body)) (drop 1 (gapAt w body))) (each distanceOk (distancesAt w body)) (s .3) (rules .distances)))
       (eq→eqb (sym (drop-first (recordLength c p - 1) ws) ∙ end .1)))
 
   there : T tested → T asked
@@ -238,8 +238,8 @@ module _ (q n w : ℕ) (body : List ℕ) where
   there t =
       let d = distancesWord (c * p) in
       let l = last w body in
-      let cells = every c (λ k. wellRead cellWords readCell (cellOk p n) (drop (1 + 7 * k) ws)) in
-      let floats = every (c * p) (λ k. wellRead floatWords readDistance distanceOk (drop (1 + 7 * c + 1 + 2 * k) ws)) in
+      let cells = everyBelow c (λ k. wellRead cellWords readCell (cellOk p n) (drop (1 + 7 * k) ws)) in
+      let floats = everyBelow (c * p) (λ k. wellRead floatWords readDistance distanceOk (drop (1 + 7 * c + 1 + 2 * k) ws)) in
       let s = five (eqb (w / 1024) 262144) (leb c candidateLimit) (eqb p (beforeOf q c)) (leb (recordLength c p) (length ws)) (bodyReads c p n ws) t in
       let b = four cells (eqb (getD ws (1 + 7 * c) 0) d) floats (eqb (getD ws (recordLength c p - 1) 0) l) (s .4) in
       let kind = eqb→eq (w / 1024) 262144 (s .0) in
@@ -254,16 +254,16 @@ module _ (q n w : ℕ) (body : List ℕ) where
       (subst T (sym (record-starts w body))
       (of-five (eqb (headWord c p) w) one-cell (starts (d ∷ []) (drop (1 + 7 * c) ws)) one-float (starts (l ∷ []) (drop (recordLength c p - 1) ws))
       (eq→eqb head)
-      (and-l one-cell (all (cellOk p n) (cellsAt w body)) cell)
+      (and-l one-cell (each (cellOk p n) (cellsAt w body)) cell)
       (of-one d (drop (1 + 7 * c) ws) (inside (1 + 7 * c) (early room)) (drop-first (1 + 7 * c) ws ∙ eqb→eq (getD ws (1 + 7 * c) 0) d (b .1)))
-      (and-l one-float (all distanceOk (distancesAt w body)) float)
+      (and-l one-float (each distanceOk (distancesAt w body)) float)
       (of-one l (drop (recordLength c p - 1) ws) (inside (recordLength c p - 1) (late room)) (drop-first (recordLength c p - 1) ws ∙ eqb→eq (getD ws (recordLength c p - 1) 0) l (b .3)))))
       (rules-row q n (rowAt w body) (record {
         few = omega (arith, size-is w body);
         before = eqb→eq p (beforeOf q c) (s .2) ∙ ap (beforeOf q) (sym (size-is w body));
         number = number-is w body ∙ ap (λ (k : ℕ). k * p) (sym (size-is w body));
-        cells = and-r one-cell (all (cellOk p n) (cellsAt w body)) cell;
-        distances = and-r one-float (all distanceOk (distancesAt w body)) float;
+        cells = and-r one-cell (each (cellOk p n) (cellsAt w body)) cell;
+        distances = and-r one-float (each distanceOk (distancesAt w body)) float;
       }))
     where
       inside : (k : ℕ) → k < length ws → 0 < length (drop k ws)

@@ -7,9 +7,10 @@ use lib.Dec.{T, leb, ltb, eqb, leb→le, le→leb, ltb→lt, lt→ltb, eqb→eq}
 use lib.ListN.{length}
 use lib.Ieee.Fits.{and-i, and-l, and-r, eq→eqb}
 use Rattle.journal.specs.declared.record.Candidate.{Candidate}
-use Rattle.journal.specs.Lists.{all}
-use Rattle.journal.specs.Row.{Fix, Cell, Row, count, size, beforeOf}
-use Rattle.journal.specs.Ranges.{candidateLimit, elementLimit, intrinsicOk, rawLogOk, distanceOk, scoreOk, parentOk, candidateOk, cellOk, fixOk}
+use Rattle.journal.specs.Lists.{each}
+use Rattle.journal.specs.Row.{Fix, Cell, Row, candidateCount, rowSize, beforeOf}
+use Rattle.journal.specs.Ranges.{candidateLimit, elementLimit, intrinsicOk, rawLogOk, distanceOk, scoreOk, parentOk, candidateOk, cellOk}
+use Rattle.journal.specs.inner.Row.{fixOk}
 use Rattle.journal.specs.Journal.{rowOk}
 
 -- ---- tests joined
@@ -84,37 +85,37 @@ rules-cell p n c h = of-three (candidateOk elementLimit (c .candidate)) (parentO
 -- ---- a fix
 
 pub record FixRules (n : ℕ) (f : Fix) : Type 0 where
-  pub few : count f ≤ candidateLimit
-  pub candidates : T (all (candidateOk n) (f .candidates))
-  pub distances : T (all distanceOk (f .distances))
+  pub few : candidateCount f ≤ candidateLimit
+  pub candidates : T (each (candidateOk n) (f .candidates))
+  pub distances : T (each distanceOk (f .distances))
 
 pub fix-rules : (n : ℕ) (f : Fix) → T (fixOk n f) → FixRules n f
 fix-rules n f h =
-    let k = three (leb (count f) candidateLimit) (all (candidateOk n) (f .candidates)) (all distanceOk (f .distances)) h in
-    record { few = leb→le (count f) candidateLimit (k .0); candidates = k .1; distances = k .2 }
+    let k = three (leb (candidateCount f) candidateLimit) (each (candidateOk n) (f .candidates)) (each distanceOk (f .distances)) h in
+    record { few = leb→le (candidateCount f) candidateLimit (k .0); candidates = k .1; distances = k .2 }
 
 pub rules-fix : (n : ℕ) (f : Fix) → FixRules n f → T (fixOk n f)
 rules-fix n f h =
-    of-three (leb (count f) candidateLimit) (all (candidateOk n) (f .candidates)) (all distanceOk (f .distances))
-    (le→leb (count f) candidateLimit (h .few)) (h .candidates) (h .distances)
+    of-three (leb (candidateCount f) candidateLimit) (each (candidateOk n) (f .candidates)) (each distanceOk (f .distances))
+    (le→leb (candidateCount f) candidateLimit (h .few)) (h .candidates) (h .distances)
 
 -- ---- a row
 
 pub record RowRules (q n : ℕ) (r : Row) : Type 0 where
-  pub few : size r ≤ candidateLimit
-  pub before : r .before ≡ beforeOf q (size r)
-  pub number : length (r .distances) ≡ size r * r .before
-  pub cells : T (all (cellOk (r .before) n) (r .cells))
-  pub distances : T (all distanceOk (r .distances))
+  pub few : rowSize r ≤ candidateLimit
+  pub before : r .before ≡ beforeOf q (rowSize r)
+  pub number : length (r .distances) ≡ rowSize r * r .before
+  pub cells : T (each (cellOk (r .before) n) (r .cells))
+  pub distances : T (each distanceOk (r .distances))
 
 pub row-rules : (q n : ℕ) (r : Row) → T (rowOk q n r) → RowRules q n r
 unfolding rowOk
 row-rules q n r h =
-    let k = five (leb (size r) candidateLimit) (eqb (r .before) (beforeOf q (size r))) (eqb (length (r .distances)) (size r * r .before)) (all (cellOk (r .before) n) (r .cells)) (all distanceOk (r .distances)) h in
+    let k = five (leb (rowSize r) candidateLimit) (eqb (r .before) (beforeOf q (rowSize r))) (eqb (length (r .distances)) (rowSize r * r .before)) (each (cellOk (r .before) n) (r .cells)) (each distanceOk (r .distances)) h in
     record {
-      few = leb→le (size r) candidateLimit (k .0);
-      before = eqb→eq (r .before) (beforeOf q (size r)) (k .1);
-      number = eqb→eq (length (r .distances)) (size r * r .before) (k .2);
+      few = leb→le (rowSize r) candidateLimit (k .0);
+      before = eqb→eq (r .before) (beforeOf q (rowSize r)) (k .1);
+      number = eqb→eq (length (r .distances)) (rowSize r * r .before) (k .2);
       cells = k .3;
       distances = k .4;
     }
@@ -122,5 +123,5 @@ row-rules q n r h =
 pub rules-row : (q n : ℕ) (r : Row) → RowRules q n r → T (rowOk q n r)
 unfolding rowOk
 rules-row q n r h =
-    of-five (leb (size r) candidateLimit) (eqb (r .before) (beforeOf q (size r))) (eqb (length (r .distances)) (size r * r .before)) (all (cellOk (r .before) n) (r .cells)) (all distanceOk (r .distances))
-    (le→leb (size r) candidateLimit (h .few)) (eq→eqb (h .before)) (eq→eqb (h .number)) (h .cells) (h .distances)
+    of-five (leb (rowSize r) candidateLimit) (eqb (r .before) (beforeOf q (rowSize r))) (eqb (length (r .distances)) (rowSize r * r .before)) (each (cellOk (r .before) n) (r .cells)) (each distanceOk (r .distances))
+    (le→leb (rowSize r) candidateLimit (h .few)) (eq→eqb (h .before)) (eq→eqb (h .number)) (h .cells) (h .distances)

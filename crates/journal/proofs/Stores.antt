@@ -9,9 +9,10 @@ use lib.ListN.{length, getD, take-append-drop, take, drop, set, length-drop, dro
 use lib.Seq.{sets, take-all, take-suc, length-take-le, take-set-le, drop-set-add}
 use lib.Ieee.{Float, nan}
 use Rattle.journal.specs.Lists.{flat}
-use Rattle.journal.specs.Row.{Cell, Row, noCandidate, noCell, size, cellsOf}
+use Rattle.journal.specs.Row.{Cell, Row, noCandidate, noCell, rowSize}
+use Rattle.journal.specs.inner.Row.{cellsOf, CellWritable}
 use Rattle.journal.specs.declared.record.Candidate.{Candidate}
-use Rattle.journal.specs.Record.{headWord, lengthWord, usedWord, cellWords, distancesWords, recordLength, recordOf, CellNarrow}
+use Rattle.journal.specs.Record.{headWord, lengthWord, usedWord, cellWords, distancesWords, recordLength, recordOf}
 use Rattle.journal.proofs.Lists.{length-flat, flat-append, length-number, getD-number}
 use Rattle.journal.specs.Journal.{put}
 use Rattle.journal.proofs.Reading.{length-cells, length-floats, length-record}
@@ -71,8 +72,8 @@ module _ (cs : List Candidate) (parents : List ℕ) (scores : List Float) where
   cells-many = length-number cell 0 cs
 
   pub cell-narrow : (k : ℕ) {c : Candidate} → k < length cs → c ≡ getD cs k noCandidate
-      → ((i : ℕ) → i < length (cellsOf cs parents scores) → CellNarrow (getD (cellsOf cs parents scores) i noCell)) → CellNarrow (cell k c)
-  cell-narrow k h own narrow = subst (λ (x : Cell). CellNarrow x) (cell-at k h ∙ sym (ap (cell k) own)) (narrow k (rw cells-many h))
+      → ((i : ℕ) → i < length (cellsOf cs parents scores) → CellWritable (getD (cellsOf cs parents scores) i noCell)) → CellWritable (cell k c)
+  cell-narrow k h own narrow = subst (λ (x : Cell). CellWritable x) (cell-at k h ∙ sym (ap (cell k) own)) (narrow k (rw cells-many h))
 
   -- a turn of the loop that stores them
   pub cells-turn : (l old new : List ℕ) (k : ℕ) {c : Candidate} → k < length cs → c ≡ getD cs k noCandidate
@@ -86,25 +87,25 @@ module _ (cs : List Candidate) (parents : List ℕ) (scores : List Float) where
       ∙ stored-turn l 1 7 k cellWords (cellsOf cs parents scores) noCell (λ c. refl) (rw cells-many h)
 
 -- head word, cells, distances and record length, stored in turn, are the record
-module _ (l cells whole : List ℕ) (r : Row) (number : length (r .distances) ≡ size r * r .before) where
-  stored : (len : ℕ) → len ≡ recordLength (size r) (r .before)
-      → cells ≡ sets (set l 0 (headWord (size r) (r .before))) 1 (flat cellWords (r .cells))
-      → whole ≡ sets cells (1 + 7 * size r) (distancesWords (r .distances))
+module _ (l cells whole : List ℕ) (r : Row) (number : length (r .distances) ≡ rowSize r * r .before) where
+  stored : (len : ℕ) → len ≡ recordLength (rowSize r) (r .before)
+      → cells ≡ sets (set l 0 (headWord (rowSize r) (r .before))) 1 (flat cellWords (r .cells))
+      → whole ≡ sets cells (1 + 7 * rowSize r) (distancesWords (r .distances))
       → set whole (len - 1) (lengthWord len) ≡ sets l 0 (recordOf r)
   unfolding recordOf
   stored len e f h =
-      let at : len - 1 ≡ 1 + 7 * size r + suc (2 * length (r .distances)) = unfold recordLength in omega arith in
+      let at : len - 1 ≡ 1 + 7 * rowSize r + suc (2 * length (r .distances)) = unfold recordLength in omega arith in
       rw (at, h, f, e)
-      (four-parts l (headWord (size r) (r .before)) _ (7 * size r) (suc (2 * length (r .distances))) (flat cellWords (r .cells)) (distancesWords (r .distances)) (length-cells (r .cells)) (ap suc (length-floats (r .distances))))
+      (four-parts l (headWord (rowSize r) (r .before)) _ (7 * rowSize r) (suc (2 * length (r .distances))) (flat cellWords (r .cells)) (distancesWords (r .distances)) (length-cells (r .cells)) (ap suc (length-floats (r .distances))))
 
   -- the cells are counted elsewhere
-  pub row-stored : (n : ℕ) → size r ≡ n → (len : ℕ) → len ≡ recordLength n (r .before)
+  pub row-stored : (n : ℕ) → rowSize r ≡ n → (len : ℕ) → len ≡ recordLength n (r .before)
       → cells ≡ sets (set l 0 (headWord n (r .before))) 1 (flat cellWords (r .cells))
       → whole ≡ sets cells (1 + 7 * n) (distancesWords (r .distances))
       → set whole (len - 1) (lengthWord len) ≡ sets l 0 (recordOf r)
   row-stored n e = rw (← e) stored
 
-pub row-length : (r : Row) (n : ℕ) → length (r .distances) ≡ size r * r .before → size r ≡ n → length (recordOf r) ≡ recordLength n (r .before)
+pub row-length : (r : Row) (n : ℕ) → length (r .distances) ≡ rowSize r * r .before → rowSize r ≡ n → length (recordOf r) ≡ recordLength n (r .before)
 row-length r n number e = rw (← e) (length-record r number)
 
 -- a record stored by a callee that was lent `&mut s[n..]`, and then word 0

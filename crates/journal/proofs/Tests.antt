@@ -19,8 +19,8 @@ use Rattle.binary64.proofs.Ranges.{range-number, clear-range-range}
 use Rattle.journal.specs.Lists.{starts}
 use Rattle.journal.specs.Row.{Cell}
 use Rattle.journal.specs.Ranges.{elementLimit, intrinsicOk, rawLogOk, scoreOk, parentOk, distanceOk, candidateOk, cellOk}
-use Rattle.journal.specs.Record.{candidateWord, high, low, cellWords, floatWords, readFloat, floatAt, readCell, readDistance}
-use Rattle.journal.specs.Check.{wellRead}
+use Rattle.journal.specs.Record.{candidateWord, highHalf, lowHalf, cellWords, floatWords, readFloat, floatAt, readCell, readDistance}
+use Rattle.journal.specs.inner.Check.{wellRead}
 use Rattle.journal.proofs.Lists.{starts-self}
 use Rattle.journal.proofs.Rules.{candidate-rules, cell-rules}
 
@@ -33,7 +33,7 @@ drop-words n ws h k = rw (getD-drop n ws k 0) (h (n + k))
 
 -- ---- a float that is no NaN is read from its own words
 
-float-back : (h l : ℕ) → h < 4294967296 → l < 4294967296 → T (not (isNan (readFloat h l))) → (high (readFloat h l) ≡ h) × (low (readFloat h l) ≡ l)
+float-back : (h l : ℕ) → h < 4294967296 → l < 4294967296 → T (not (isNan (readFloat h l))) → (highHalf (readFloat h l) ≡ h) × (lowHalf (readFloat h l) ≡ l)
 float-back h l a b n =
     let e : toBits binary64 (readFloat h l) ≡ h * 4294967296 + l = toBits-ofBits binary64 (h * 4294967296 + l) (omega arith) n in
     (rw e (omega arith), rw e (omega arith))

@@ -14,7 +14,7 @@ use lib.Ieee.Bits.{ofBits-fits}
 use lib.Ieee.Fits.{and-l, and-r}
 use Rattle.binary64.proofs.Order.{taken}
 use Rattle.journal.specs.Lists.{starts}
-use Rattle.journal.specs.Row.{Row, size, predecessor, sizeOf}
+use Rattle.journal.specs.Row.{Row, rowSize, predecessor, sizeOf}
 use Rattle.journal.specs.Ranges.{rowLimit}
 use Rattle.journal.specs.Record.{usedWord, recordOf, readCell, readDistance, readEach, headCount, headBefore, readRow}
 use Rattle.journal.specs.Journal.{words, journal, rowOk, recordOk, readRows, used, usedWords, readJournal}
@@ -57,7 +57,7 @@ row-fit rs ws h ok = go (readRow ws) (unfold readRow in each-fits CellFits readC
         let a = row-rules (sizeOf (predecessor rs)) (length rs) r k in
         record {
           few = a .few;
-          few-before = omega (arith, a .before, before-small (sizeOf (predecessor rs)) (size r) (size-small rs (predecessor rs) refl h));
+          few-before = omega (arith, a .before, before-small (sizeOf (predecessor rs)) (rowSize r) (size-small rs (predecessor rs) refl h));
           number = a .number;
           cells = c;
           distances = d;

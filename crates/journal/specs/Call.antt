@@ -1,6 +1,5 @@
 -- Opening and striking as functions on a slice's words: what the call answers, and the words that it leaves.
-use Prim.Native.Nat.{ℕ, suc, _≤_}
-use mathlib.Core.Path.{_≡_}
+use Prim.Native.Nat.{ℕ, suc}
 use mathlib.Core.Bool.{Bool, cond}
 use mathlib.Core.List.{List, [], _∷_}
 use mathlib.Core.Option.{Option, none, some}
@@ -31,29 +30,13 @@ opening [] = (Refused 12, [])
 opening (w ∷ ws) = (Done, usedWord 1 ∷ ws)
 
 -- word 0 counts these rows
-unfoldable pub cut : List ℕ → List Row → List ℕ
-cut s rs = set s 0 (usedWord (suc (length (words rs))))
+unfoldable pub recounted : List ℕ → List Row → List ℕ
+recounted s rs = set s 0 (usedWord (suc (length (words rs))))
 
 abbrev pub strikeRead : List ℕ → ℕ → Option (List Row) → Outcome
 strikeRead s n none = (Refused 7, s)
-strikeRead s n (some rs) = outcome (firstFailed ((13, leb n (length rs)) ∷ [])) (cut s (drop n rs)) s
+strikeRead s n (some rs) = outcome (firstFailed ((13, leb n (length rs)) ∷ [])) (recounted s (drop n rs)) s
 
 -- striking the last n rows: checks 7 and 13, then word 0 alone
 unfoldable pub striking : List ℕ → ℕ → Outcome
 striking s n = strikeRead s n (readJournal s)
-
--- ---- the records of the last rows
-
--- at least n rows stand
-pub record Standing (s : List ℕ) (n : ℕ) : Type 0 where
-  pub rows : List Row
-  pub reads : readJournal s ≡ some rows
-  pub enough : n ≤ length rows
-
-abbrev pub endRead : ℕ → Option (List Row) → ℕ
-endRead n none = 0
-endRead n (some rs) = suc (length (words (drop n rs)))
-
--- where the records of the last n rows start
-unfoldable pub endOf : List ℕ → ℕ → ℕ
-endOf s n = endRead n (readJournal s)

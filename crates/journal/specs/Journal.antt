@@ -7,8 +7,8 @@ use mathlib.Core.Option.{Option, none, some}
 use lib.Dec.{leb, eqb}
 use lib.ListN.{length, getD, take, drop, set}
 use lib.Seq.{sets}
-use Rattle.journal.specs.Lists.{all, starts}
-use Rattle.journal.specs.Row.{Row, size, predecessor, sizeOf, beforeOf}
+use Rattle.journal.specs.Lists.{each, starts}
+use Rattle.journal.specs.Row.{Row, rowSize, predecessor, sizeOf, beforeOf}
 use Rattle.journal.specs.Ranges.{candidateLimit, rowLimit, distanceOk, cellOk}
 use Rattle.journal.specs.Record.{usedWord, recordOf, readRow}
 
@@ -30,9 +30,9 @@ put s n r = set (sets s n (recordOf r)) 0 (usedWord (n + length (recordOf r)))
 -- row number n, whose predecessor has q candidates, obeys the rules
 unfoldable pub rowOk : ℕ → ℕ → Row → Bool
 rowOk q n r =
-    leb (size r) candidateLimit
-    && (eqb (r .before) (beforeOf q (size r))
-    && (eqb (length (r .distances)) (size r * r .before) && (all (cellOk (r .before) n) (r .cells) && all distanceOk (r .distances))))
+    leb (rowSize r) candidateLimit
+    && (eqb (r .before) (beforeOf q (rowSize r))
+    && (eqb (length (r .distances)) (rowSize r * r .before) && (each (cellOk (r .before) n) (r .cells) && each distanceOk (r .distances))))
 
 -- the words hold the row's record, and it obeys the rules on the rows before it
 abbrev pub recordOk : List Row → Row → List ℕ → Bool

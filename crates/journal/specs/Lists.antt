@@ -5,9 +5,9 @@ use mathlib.Core.List.{List, [], _∷_, _++_}
 use lib.Dec.{eqb}
 
 -- every entry passes the test
-abbrev pub all : {A : Type 0} → (A → Bool) → List A → Bool
-all test [] = true
-all test (a ∷ l) = test a && all test l
+abbrev pub each : {A : Type 0} → (A → Bool) → List A → Bool
+each test [] = true
+each test (a ∷ l) = test a && each test l
 
 -- the words of each entry, one after the other
 abbrev pub flat : {A : Type 0} → (A → List ℕ) → List A → List ℕ

@@ -4,11 +4,10 @@ use mathlib.Core.Bool.{Bool, true, false, _&&_, _||_}
 use lib.Dec.{leb, ltb, eqb}
 use lib.IntN.{pos}
 use lib.Ieee.{Float, fin, binary64}
-use Rattle.binary64.specs.Values.{pzero, whole, isMinusInfinity}
+use Rattle.binary64.specs.Values.{pzero, ofWhole, isMinusInfinity}
 use Rattle.binary64.specs.Ranges.{inRange, inClearRange}
 use Rattle.journal.specs.declared.record.Candidate.{Candidate}
-use Rattle.journal.specs.Lists.{all}
-use Rattle.journal.specs.Row.{Fix, Cell, count, noParent}
+use Rattle.journal.specs.Row.{Cell, noParent}
 
 -- at most this many candidates in a fix, elements in a network, rows in a journal
 abbrev pub candidateLimit : ℕ
@@ -34,7 +33,7 @@ distanceOk x = inRange pzero (fin false 628125 (pos 5)) x
 
 -- -10^13 * (r + 1)
 unfoldable pub lowestScore : ℕ → Float
-lowestScore r = whole binary64 true (10_000_000_000_000 * suc r)
+lowestScore r = ofWhole binary64 true (10_000_000_000_000 * suc r)
 
 -- in row r, from 0: minus infinity, or -10^13 * (r + 1) to 0
 unfoldable pub scoreOk : ℕ → Float → Bool
@@ -51,7 +50,3 @@ candidateOk n c = ltb (c .element) n && (intrinsicOk (c .intrinsic) && (leb (c .
 -- in row r, with p predecessor candidates
 unfoldable pub cellOk : ℕ → ℕ → Cell → Bool
 cellOk p r c = candidateOk elementLimit (c .candidate) && (parentOk p (c .parent) && scoreOk r (c .score))
-
--- 0 to 16 candidates, each field of them and each distance in its range
-abbrev pub fixOk : ℕ → Fix → Bool
-fixOk n f = leb (count f) candidateLimit && (all (candidateOk n) (f .candidates) && all distanceOk (f .distances))

@@ -1,12 +1,10 @@
 -- Document 01, "Journal": a row's record in 32-bit words, and what is read from one.
-use Prim.Native.Nat.{ℕ, zero, suc, _+_, _*_, _/_, _%_, _<_, _≤_}
-use mathlib.Core.Path.{_≡_}
+use Prim.Native.Nat.{ℕ, zero, suc, _+_, _*_, _/_, _%_}
 use mathlib.Core.List.{List, [], _∷_, _++_}
 use lib.ListN.{length, getD, drop}
 use lib.Ieee.{Float, binary64, toBits, ofBits}
 use Rattle.journal.specs.Lists.{flat}
-use Rattle.journal.specs.Row.{Cell, Row, size, cellOf}
-use Rattle.journal.specs.Ranges.{candidateLimit, elementLimit}
+use Rattle.journal.specs.Row.{Cell, Row, rowSize}
 
 -- ---- words by kind, the top four bits
 
@@ -31,23 +29,23 @@ abbrev pub usedWord : ℕ → ℕ
 usedWord n = 0x50000000 + n
 
 -- a float's words are raw, high half first
-abbrev pub high : Float → ℕ
-high x = toBits binary64 x / 4294967296
+abbrev pub highHalf : Float → ℕ
+highHalf x = toBits binary64 x / 4294967296
 
-abbrev pub low : Float → ℕ
-low x = toBits binary64 x % 4294967296
+abbrev pub lowHalf : Float → ℕ
+lowHalf x = toBits binary64 x % 4294967296
 
 abbrev pub floatWords : Float → List ℕ
-floatWords x = high x ∷ low x ∷ []
+floatWords x = highHalf x ∷ lowHalf x ∷ []
 
 -- ---- a row's record
 
 abbrev pub cellWords : Cell → List ℕ
 cellWords c =
     candidateWord (c .candidate .element) (c .candidate .near) (c .parent)
-    ∷ high (c .candidate .intrinsic) ∷ low (c .candidate .intrinsic)
-    ∷ high (c .candidate .«raw_log») ∷ low (c .candidate .«raw_log»)
-    ∷ high (c .score) ∷ low (c .score) ∷ []
+    ∷ highHalf (c .candidate .intrinsic) ∷ lowHalf (c .candidate .intrinsic)
+    ∷ highHalf (c .candidate .«raw_log») ∷ lowHalf (c .candidate .«raw_log»)
+    ∷ highHalf (c .score) ∷ lowHalf (c .score) ∷ []
 
 abbrev pub distancesWords : List Float → List ℕ
 distancesWords ds = distancesWord (length ds) ∷ flat floatWords ds
@@ -58,19 +56,7 @@ recordLength c p = 7 * c + 2 * (c * p) + 3
 
 unfoldable pub recordOf : Row → List ℕ
 recordOf r =
-    headWord (size r) (r .before) ∷ (flat cellWords (r .cells) ++ (distancesWords (r .distances) ++ (lengthWord (recordLength (size r) (r .before)) ∷ [])))
-
--- what is asked of a row that is to be written: at most 16 candidates and 16 predecessor candidates, a distance for each pair, each field in its bits
-pub record CellNarrow (c : Cell) : Type 0 where
-  pub element : c .candidate .element < elementLimit
-  pub near : c .candidate .near < 2
-  pub parent : c .parent < 32
-
-pub record RowNarrow (r : Row) : Type 0 where
-  pub few : size r ≤ candidateLimit
-  pub before : r .before ≤ candidateLimit
-  pub number : length (r .distances) ≡ size r * r .before
-  pub cell : (k : ℕ) → k < size r → CellNarrow (cellOf r k)
+    headWord (rowSize r) (r .before) ∷ (flat cellWords (r .cells) ++ (distancesWords (r .distances) ++ (lengthWord (recordLength (rowSize r) (r .before)) ∷ [])))
 
 -- ---- reading back
 

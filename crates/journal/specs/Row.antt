@@ -8,7 +8,7 @@ use lib.Dec.{eqb}
 use lib.ListN.{length, getD}
 use lib.Ieee.{Float, nan, inf}
 use lib.Ieee.Scale.{finite}
-use Rattle.lists.specs.Loops.{any}
+use Rattle.lists.specs.Loops.{anyBelow}
 use Rattle.binary64.specs.Values.{pzero}
 use Rattle.journal.specs.Lists.{number}
 use Rattle.journal.specs.declared.record.Candidate.{Candidate}
@@ -42,18 +42,18 @@ noCandidate = record { element = 0; intrinsic = pzero; near = 0; «raw_log» = i
 abbrev pub noCell : Cell
 noCell = record { candidate = noCandidate; parent = noParent; score = inf true }
 
-abbrev pub count : Fix → ℕ
-count f = length (f .candidates)
+abbrev pub candidateCount : Fix → ℕ
+candidateCount f = length (f .candidates)
 
 abbrev pub candidateOf : Fix → ℕ → Candidate
 candidateOf f i = getD (f .candidates) i noCandidate
 
 -- from candidate j of the predecessor to candidate i of the fix
 abbrev pub distanceOf : Fix → ℕ → ℕ → Float
-distanceOf f j i = getD (f .distances) (j * count f + i) pzero
+distanceOf f j i = getD (f .distances) (j * candidateCount f + i) pzero
 
-abbrev pub size : Row → ℕ
-size r = length (r .cells)
+abbrev pub rowSize : Row → ℕ
+rowSize r = length (r .cells)
 
 abbrev pub cellOf : Row → ℕ → Cell
 cellOf r i = getD (r .cells) i noCell
@@ -61,22 +61,11 @@ cellOf r i = getD (r .cells) i noCell
 abbrev pub scoreOf : Row → ℕ → Float
 scoreOf r i = cellOf r i .score
 
-abbrev pub fixOf : Row → Fix
-fixOf r = record { candidates = map (λ (c : Cell). c .candidate) (r .cells); distances = r .distances }
-
--- candidates with their parents and scores, a list of each
-unfoldable pub cellsOf : List Candidate → List ℕ → List Float → List Cell
-cellsOf cs parents scores = number (λ i c. record { candidate = c; parent = getD parents i 0; score = getD scores i nan }) 0 cs
-
--- the row of a fix with these parents, scores and p predecessor candidates
-abbrev pub rowOf : Fix → List ℕ → List Float → ℕ → Row
-rowOf f parents scores p = record { cells = cellsOf (f .candidates) parents scores; before = p; distances = f .distances }
-
 -- ---- the predecessor
 
 -- one of its scores is finite
 unfoldable pub scores : Row → Bool
-scores r = any (size r) (λ i. finite (scoreOf r i))
+scores r = anyBelow (rowSize r) (λ i. finite (scoreOf r i))
 
 -- of a further row: the latest of these rows that scores
 unfoldable pub predecessor : List Row → Option Row
@@ -86,7 +75,7 @@ predecessor (r ∷ rs) = cond (scores r) (some r) (predecessor rs)
 -- how many candidates it has, 0 without one
 abbrev pub sizeOf : Option Row → ℕ
 sizeOf none = 0
-sizeOf (some p) = size p
+sizeOf (some p) = rowSize p
 
 -- how many predecessor candidates a row of c candidates counts where its predecessor has q: none without candidates
 abbrev pub beforeOf : ℕ → ℕ → ℕ
@@ -110,3 +99,13 @@ fixGiven g = record { candidates = number (candidateGiven g) 0 (g .elements); di
 
 abbrev pub givenOf : List ℕ → List Float → List ℕ → List Float → List Float → Given
 givenOf elements intrinsics near rawLogs distances = record { elements = elements; intrinsics = intrinsics; near = near; rawLogs = rawLogs; distances = distances }
+
+-- the lists that a fix was made of
+unfoldable pub handed : Fix → Given
+handed f = record {
+  elements = map (λ (c : Candidate). c .element) (f .candidates);
+  intrinsics = map (λ (c : Candidate). c .intrinsic) (f .candidates);
+  near = map (λ (c : Candidate). c .near) (f .candidates);
+  rawLogs = map (λ (c : Candidate). c .«raw_log») (f .candidates);
+  distances = f .distances;
+}

@@ -5,7 +5,7 @@ use mathlib.Core.List.{List, [], _∷_, _++_}
 use lib.Dec.{T}
 use lib.ListN.{length}
 use lib.Ieee.{Float, binary64, fits}
-use Rattle.journal.specs.Row.{Cell, Row, size, predecessor, sizeOf}
+use Rattle.journal.specs.Row.{Cell, Row, rowSize, predecessor, sizeOf}
 use Rattle.journal.specs.Ranges.{candidateLimit, elementLimit, rowLimit}
 use Rattle.journal.specs.Journal.{journal, rowOk}
 
@@ -27,9 +27,9 @@ pub record CellFits (c : Cell) : Type 0 where
   pub score : Fitting (c .score)
 
 pub record RowFits (r : Row) : Type 0 where
-  pub few : size r ≤ candidateLimit
+  pub few : rowSize r ≤ candidateLimit
   pub few-before : r .before ≤ candidateLimit
-  pub number : length (r .distances) ≡ size r * r .before
+  pub number : length (r .distances) ≡ rowSize r * r .before
   pub cells : Each CellFits (r .cells)
   pub distances : Each Fitting (r .distances)
 

@@ -2,7 +2,8 @@
 use crate::check::Survey;
 use crate::check::read_journal;
 ghost use mathlib.Core.Path.{_≡_};
-ghost use Rattle.journal.specs.Call.{opening, striking, Standing, endOf};
+ghost use Rattle.journal.specs.Call.{opening, striking};
+ghost use Rattle.journal.specs.inner.Strike.{RowsAtLeast, endOf};
 
 // What a call that writes the journal answers: done, or a refusal's number.
 pub enum Answer {
@@ -23,7 +24,7 @@ pub fn open(journal: &mut [u32]) -> Answer
 
 // Where the last n records start, by the lengths at their ends.
 pub fn end_before(journal: &[u32], n: usize) -> usize
-    requires { ⌜ Standing (now journal) n ⌝ }
+    requires { ⌜ RowsAtLeast (now journal) n ⌝ }
     ensures { λ r. ⌜ r ≡ endOf (now (journal .entry)) n ⌝ }
 {
     let mut at = (journal[0] % 268435456) as usize;

@@ -7,7 +7,7 @@ ghost use mathlib.Core.List.{[]};
 ghost use lib.ListN.{length, drop};
 ghost use Rattle.journal.specs.Ranges.{rowLimit};
 ghost use Rattle.journal.specs.Journal.{readRows};
-ghost use Rattle.journal.specs.Check.{pick, candidatesOf, surveyOf, survey};
+ghost use Rattle.journal.specs.inner.Check.{whether, candidatesOf, surveyOf, survey};
 
 // The predecessor of a further row: where its record starts, its number and how many candidates it has.
 pub enum Predecessor {
@@ -51,7 +51,7 @@ fn later(
     candidates: usize,
     scores: bool,
 ) -> Predecessor
-    ensures { λ r. ⌜ r ≡ pick scores (Predecessor.At place row candidates) latest ⌝ }
+    ensures { λ r. ⌜ r ≡ whether scores (Predecessor.At place row candidates) latest ⌝ }
 {
     if scores {
         return Predecessor::At {

@@ -14,11 +14,11 @@ ghost use mathlib.Core.Path.{_≡_};
 ghost use Prim.Native.Nat.{_+_, _*_, _<_, _≤_};
 ghost use lib.ListN.{length, drop};
 ghost use lib.Ieee.Scale.{finite};
-ghost use Rattle.lists.specs.Loops.{any, every};
+ghost use Rattle.lists.specs.Loops.{anyBelow, everyBelow};
 ghost use Rattle.journal.specs.Row.{beforeOf};
 ghost use Rattle.journal.specs.Ranges.{distanceOk, cellOk};
 ghost use Rattle.journal.specs.Record.{cellWords, floatWords, floatAt, readCell, readDistance, recordLength};
-ghost use Rattle.journal.specs.Check.{wellRead, bodyReads, recordAt};
+ghost use Rattle.journal.specs.inner.Check.{wellRead, bodyReads, recordAt};
 
 // What stands at the head of some words: no record, or a record's length, its number of candidates and whether its row scores.
 pub enum Record {
@@ -68,7 +68,7 @@ fn cell_reads(words: &[u32], at: usize, p: u32, row: usize) -> bool
 // Whether those of c candidates are.
 fn cells_read(words: &[u32], c: usize, p: u32, row: usize) -> bool
     requires { ⌜ (1 + 7 * c ≤ length (now words)) × (row < 65536) ⌝ }
-    ensures { λ r. ⌜ r ≡ every c (λ k. wellRead cellWords readCell (cellOk p row) (drop (1 + 7 * k) (now (words .entry)))) ⌝ }
+    ensures { λ r. ⌜ r ≡ everyBelow c (λ k. wellRead cellWords readCell (cellOk p row) (drop (1 + 7 * k) (now (words .entry)))) ⌝ }
 {
     let mut k = 0;
     while k < c {
@@ -91,7 +91,7 @@ fn distance_reads(words: &[u32], at: usize) -> bool
 // Whether those of n distances from `at` on are, one after the other.
 fn each_distance_reads(words: &[u32], at: usize, n: usize) -> bool
     requires { ⌜ at + 2 * n ≤ length (now words) ⌝ }
-    ensures { λ r. ⌜ r ≡ every n (λ k. wellRead floatWords readDistance distanceOk (drop (at + 2 * k) (now (words .entry)))) ⌝ }
+    ensures { λ r. ⌜ r ≡ everyBelow n (λ k. wellRead floatWords readDistance distanceOk (drop (at + 2 * k) (now (words .entry)))) ⌝ }
 {
     let mut k = 0;
     while k < n {
@@ -106,7 +106,7 @@ fn each_distance_reads(words: &[u32], at: usize, n: usize) -> bool
 // The same: distances below 2^24 m are in range, which the greatest of their high halves tells of all of them.
 fn distances_read(words: &[u32], at: usize, n: usize) -> bool
     requires { ⌜ at + 2 * n ≤ length (now words) ⌝ }
-    ensures { λ r. ⌜ r ≡ every n (λ k. wellRead floatWords readDistance distanceOk (drop (at + 2 * k) (now (words .entry)))) ⌝ }
+    ensures { λ r. ⌜ r ≡ everyBelow n (λ k. wellRead floatWords readDistance distanceOk (drop (at + 2 * k) (now (words .entry)))) ⌝ }
 {
     if greatest_half(words, at, n) < 0x4170_0000 {
         return true;
@@ -117,7 +117,7 @@ fn distances_read(words: &[u32], at: usize, n: usize) -> bool
 // Whether one of the scores of c candidates is finite.
 fn scores_read(words: &[u32], c: usize) -> bool
     requires { ⌜ 1 + 7 * c ≤ length (now words) ⌝ }
-    ensures { λ r. ⌜ r ≡ any c (λ k. finite (floatAt (now (words .entry)) (6 + 7 * k))) ⌝ }
+    ensures { λ r. ⌜ r ≡ anyBelow c (λ k. finite (floatAt (now (words .entry)) (6 + 7 * k))) ⌝ }
 {
     let mut k = 0;
     while k < c {

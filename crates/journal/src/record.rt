@@ -8,9 +8,10 @@ ghost use Prim.Native.Nat.{ℕ, _+_, _*_, _<_, _≤_};
 ghost use lib.ListN.{length, getD};
 ghost use lib.Seq.{sets};
 ghost use Rattle.journal.specs.Lists.{flat};
-ghost use Rattle.journal.specs.Row.{Cell, Row, noCell, cellsOf, rowOf};
-ghost use Rattle.journal.specs.Fix.{candidatesIn, fixIn, Whole};
-ghost use Rattle.journal.specs.Record.{cellWords, distancesWords, recordLength, recordOf, CellNarrow, RowNarrow};
+ghost use Rattle.journal.specs.Row.{Cell, Row, noCell};
+ghost use Rattle.journal.specs.inner.Row.{cellsOf, rowOf, CellWritable, RowWritable};
+ghost use Rattle.journal.specs.inner.Fix.{candidatesIn, fixIn, Entries16};
+ghost use Rattle.journal.specs.Record.{cellWords, distancesWords, recordLength, recordOf};
 ghost use Rattle.journal.specs.Journal.{put};
 
 // Document 01's candidate: an element number, an intrinsic, a near flag and a raw log.
@@ -41,7 +42,7 @@ pub fn record_length(c: usize, p: usize) -> usize
 fn put_cell(words: &mut [u32], at: usize, c: Candidate, parent: u32, score: f64)
     ghost { Cell }
     requires { λ cell. ⌜ record { candidate = c; parent = parent; score = score } ≡ cell ⌝ }
-    requires { λ cell. ⌜ CellNarrow cell ⌝ }
+    requires { λ cell. ⌜ CellWritable cell ⌝ }
     requires { λ _. ⌜ at + 7 ≤ length (now words) ⌝ }
     ensures { λ cell _. ⌜ now (words .exit) ≡ sets (now (words .entry)) at (cellWords cell) ⌝ }
 {
@@ -55,8 +56,8 @@ fn put_cell(words: &mut [u32], at: usize, c: Candidate, parent: u32, score: f64)
 fn put_cells(words: &mut [u32], fix: Candidates, parents: &[u32; 16], scores: &[f64; 16])
     ghost { List Cell }
     requires { λ cells. ⌜ cellsOf (candidatesIn fix) (now parents) (now scores) ≡ cells ⌝ }
-    requires { λ _. ⌜ Whole fix ⌝ }
-    requires { λ cells. ⌜ ((k : ℕ) → k < length cells → CellNarrow (getD cells k noCell)) ⌝ }
+    requires { λ _. ⌜ Entries16 fix ⌝ }
+    requires { λ cells. ⌜ ((k : ℕ) → k < length cells → CellWritable (getD cells k noCell)) ⌝ }
     requires { λ cells. ⌜ 1 + 7 * length cells ≤ length (now words) ⌝ }
     ensures { λ cells _. ⌜ now (words .exit) ≡ sets (now (words .entry)) 1 (flat cellWords cells) ⌝ }
 {
@@ -92,7 +93,7 @@ fn put_row(
 ) -> usize
     ghost { Row }
     requires { λ row. ⌜ rowOf (fixIn fix (now distances)) (now parents) (now scores) p ≡ row ⌝ }
-    requires { λ row. ⌜ Whole fix × RowNarrow row ⌝ }
+    requires { λ row. ⌜ Entries16 fix × RowWritable row ⌝ }
     requires { λ row. ⌜ length (recordOf row) ≤ length (now words) ⌝ }
     ensures { λ row r. ⌜ r ≡ length (recordOf row) ⌝ ∗ ⌜ now (words .exit) ≡ sets (now (words .entry)) 0 (recordOf row) ⌝ }
 {
@@ -117,7 +118,7 @@ pub fn add_row(
 )
     ghost { Row }
     requires { λ row. ⌜ rowOf (fixIn fix (now distances)) (now parents) (now scores) p ≡ row ⌝ }
-    requires { λ row. ⌜ Whole fix × RowNarrow row ⌝ }
+    requires { λ row. ⌜ Entries16 fix × RowWritable row ⌝ }
     requires { λ row. ⌜ (used + length (recordOf row) ≤ length (now journal)) × (used + length (recordOf row) < 268435456) ⌝ }
     ensures { λ row _. ⌜ now (journal .exit) ≡ put (now (journal .entry)) used row ⌝ }
 {

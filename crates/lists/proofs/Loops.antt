@@ -1,4 +1,4 @@
--- A turn of each loop, and its end; what `every` and `any` tell of each number. Assumes nothing.
+-- A turn of each loop, and its end; what `everyBelow` and `anyBelow` tell of each number. Assumes nothing.
 use mathlib.Core.Path.{_≡_, refl, sym, ap, subst, fun-ext}
 use mathlib.Core.Bool.{Bool, true, false, _&&_, _||_}
 use mathlib.Core.Logic.{_⊎_, inl, inr, ⊎-elim}
@@ -6,7 +6,7 @@ use Prim.Native.Nat.{ℕ, zero, suc, _+_, _<_}
 use native.Mathlib.Nat.{not-suc-le-zero, le-of-suc-le-suc, eq-or-lt-of-le}
 use native.Mathlib.Omega.{arith}
 use native.Mathlib.Numerals.{add-one}
-use Rattle.lists.specs.Loops.{upTo, every, any}
+use Rattle.lists.specs.Loops.{upTo, everyBelow, anyBelow}
 
 -- ---- tests
 
@@ -49,68 +49,68 @@ upTo-done k n step x₀ h e = rw (← e) h
 
 -- ---- every
 
-pub every-none : (test : ℕ → Bool) → every 0 test ≡ true
-unfolding every
+pub every-none : (test : ℕ → Bool) → everyBelow 0 test ≡ true
+unfolding everyBelow
 every-none test = refl
 
-pub every-turn : (k : ℕ) (test : ℕ → Bool) → every k test ≡ true → test k ≡ true → every (k + 1) test ≡ true
-unfolding every
+pub every-turn : (k : ℕ) (test : ℕ → Bool) → everyBelow k test ≡ true → test k ≡ true → everyBelow (k + 1) test ≡ true
+unfolding everyBelow
 every-turn k test h e = rw (add-one, h, e)
 
-pub every-done : (k n : ℕ) (test : ℕ → Bool) → every k test ≡ true → k ≡ n → true ≡ every n test
+pub every-done : (k n : ℕ) (test : ℕ → Bool) → everyBelow k test ≡ true → k ≡ n → true ≡ everyBelow n test
 every-done k n test h e = rw (← e, h)
 
 -- an answer that is kept from turn to turn, with no end before the last one
-pub every-kept : (k : ℕ) (test : ℕ → Bool) {was is : Bool} → was ≡ every k test → is ≡ was && test k → is ≡ every (k + 1) test
-unfolding every
+pub every-kept : (k : ℕ) (test : ℕ → Bool) {was is : Bool} → was ≡ everyBelow k test → is ≡ was && test k → is ≡ everyBelow (k + 1) test
+unfolding everyBelow
 every-kept k test h e = rw (add-one, ← h) e
 
-pub every-all-kept : (k n : ℕ) (test : ℕ → Bool) {is : Bool} → is ≡ every k test → k ≡ n → is ≡ every n test
+pub every-all-kept : (k n : ℕ) (test : ℕ → Bool) {is : Bool} → is ≡ everyBelow k test → k ≡ n → is ≡ everyBelow n test
 every-all-kept k n test h e = rw (← e) h
 
-pub every-at : (n : ℕ) (test : ℕ → Bool) → every n test ≡ true → (k : ℕ) → k < n → test k ≡ true
-unfolding every
+pub every-at : (n : ℕ) (test : ℕ → Bool) → everyBelow n test ≡ true → (k : ℕ) → k < n → test k ≡ true
+unfolding everyBelow
 every-at zero test h k l = absurd (not-suc-le-zero l)
 every-at (suc n) test h k l =
-    let p = and-both (every n test) (test n) h in
+    let p = and-both (everyBelow n test) (test n) h in
     ⊎-elim (λ (e : k ≡ n). subst (λ j. test j ≡ true) (sym e) (p .1)) (λ (m : k < n). every-at n test (p .0) k m) (eq-or-lt-of-le (le-of-suc-le-suc l))
 
-pub every-all : (n : ℕ) (test : ℕ → Bool) → ((k : ℕ) → k < n → test k ≡ true) → every n test ≡ true
-unfolding every
+pub every-all : (n : ℕ) (test : ℕ → Bool) → ((k : ℕ) → k < n → test k ≡ true) → everyBelow n test ≡ true
+unfolding everyBelow
 every-all zero test h = refl
 every-all (suc n) test h = both-and (every-all n test (λ k l. h k (omega arith))) (h n (omega arith))
 
 -- a number below n that fails
-pub every-stop : (k n : ℕ) (test : ℕ → Bool) → k < n → test k ≡ false → false ≡ every n test
-every-stop k n test l e = ⊎-elim (λ t. clash (every-at n test t k l) e) (λ f. sym f) (two (every n test))
+pub every-stop : (k n : ℕ) (test : ℕ → Bool) → k < n → test k ≡ false → false ≡ everyBelow n test
+every-stop k n test l e = ⊎-elim (λ t. clash (every-at n test t k l) e) (λ f. sym f) (two (everyBelow n test))
 
 -- ---- any
 
-pub any-none : (test : ℕ → Bool) → any 0 test ≡ false
-unfolding any
+pub any-none : (test : ℕ → Bool) → anyBelow 0 test ≡ false
+unfolding anyBelow
 any-none test = refl
 
-pub any-turn : (k : ℕ) (test : ℕ → Bool) → any k test ≡ false → test k ≡ false → any (k + 1) test ≡ false
-unfolding any
+pub any-turn : (k : ℕ) (test : ℕ → Bool) → anyBelow k test ≡ false → test k ≡ false → anyBelow (k + 1) test ≡ false
+unfolding anyBelow
 any-turn k test h e = rw (add-one, h, e)
 
-pub any-done : (k n : ℕ) (test : ℕ → Bool) → any k test ≡ false → k ≡ n → false ≡ any n test
+pub any-done : (k n : ℕ) (test : ℕ → Bool) → anyBelow k test ≡ false → k ≡ n → false ≡ anyBelow n test
 any-done k n test h e = rw (← e, h)
 
 -- a number below n that passes
-pub any-stop : (k n : ℕ) (test : ℕ → Bool) → k < n → test k ≡ true → true ≡ any n test
-unfolding any
+pub any-stop : (k n : ℕ) (test : ℕ → Bool) → k < n → test k ≡ true → true ≡ anyBelow n test
+unfolding anyBelow
 any-stop k zero test l e = absurd (not-suc-le-zero l)
 any-stop k (suc n) test l e =
-    ⊎-elim (λ (i : k ≡ n). rw (subst (λ j. test j ≡ true) i e) (sym (or-right (any n test))))
+    ⊎-elim (λ (i : k ≡ n). rw (subst (λ j. test j ≡ true) i e) (sym (or-right (anyBelow n test))))
     (λ (m : k < n). rw (← any-stop k n test m e))
     (eq-or-lt-of-le (le-of-suc-le-suc l))
 
-pub any-some : (n : ℕ) (test : ℕ → Bool) → any n test ≡ true → (k : ℕ) × (k < n) × (test k ≡ true)
-unfolding any
+pub any-some : (n : ℕ) (test : ℕ → Bool) → anyBelow n test ≡ true → (k : ℕ) × (k < n) × (test k ≡ true)
+unfolding anyBelow
 any-some zero test h = clash h refl
 any-some (suc n) test h =
-    ⊎-elim (λ p. let r = any-some n test p in (r .0, omega (arith, r .1), r .2)) (λ p. (n, omega arith, p)) (or-either (any n test) (test n) h)
+    ⊎-elim (λ p. let r = any-some n test p in (r .0, omega (arith, r .1), r .2)) (λ p. (n, omega arith, p)) (or-either (anyBelow n test) (test n) h)
 
 -- ---- from the front, and by another test
 
@@ -122,15 +122,15 @@ pub and-assoc : (a b c : Bool) → (a && b) && c ≡ a && (b && c)
 and-assoc true b c = refl
 and-assoc false b c = refl
 
-pub every-front : (n : ℕ) (test : ℕ → Bool) → every (suc n) test ≡ test 0 && every n (λ k. test (suc k))
-unfolding every
+pub every-front : (n : ℕ) (test : ℕ → Bool) → everyBelow (suc n) test ≡ test 0 && everyBelow n (λ k. test (suc k))
+unfolding everyBelow
 every-front zero test = sym (and-true (test 0))
-every-front (suc n) test = rw (every-front n test) (and-assoc (test 0) (every n (λ k. test (suc k))) (test (suc n)))
+every-front (suc n) test = rw (every-front n test) (and-assoc (test 0) (everyBelow n (λ k. test (suc k))) (test (suc n)))
 
-pub every-same : (n : ℕ) (f g : ℕ → Bool) → ((k : ℕ) → f k ≡ g k) → every n f ≡ every n g
-every-same n f g h = ap (every n) (fun-ext h)
+pub every-same : (n : ℕ) (f g : ℕ → Bool) → ((k : ℕ) → f k ≡ g k) → everyBelow n f ≡ everyBelow n g
+every-same n f g h = ap (everyBelow n) (fun-ext h)
 
-pub any-same : (n : ℕ) (f g : ℕ → Bool) → ((k : ℕ) → k < n → f k ≡ g k) → any n f ≡ any n g
-unfolding any
+pub any-same : (n : ℕ) (f g : ℕ → Bool) → ((k : ℕ) → k < n → f k ≡ g k) → anyBelow n f ≡ anyBelow n g
+unfolding anyBelow
 any-same zero f g h = refl
 any-same (suc n) f g h = rw (any-same n f g (λ k l. h k (omega arith)), h n (omega arith))

@@ -8,11 +8,11 @@ upTo zero step x = x
 upTo (suc n) step x = step n (upTo n step x)
 
 -- every number below n passes the test
-unfoldable pub every : ℕ → (ℕ → Bool) → Bool
-every zero test = true
-every (suc n) test = every n test && test n
+unfoldable pub everyBelow : ℕ → (ℕ → Bool) → Bool
+everyBelow zero test = true
+everyBelow (suc n) test = everyBelow n test && test n
 
 -- some number below n passes the test
-unfoldable pub any : ℕ → (ℕ → Bool) → Bool
-any zero test = false
-any (suc n) test = any n test || test n
+unfoldable pub anyBelow : ℕ → (ℕ → Bool) → Bool
+anyBelow zero test = false
+anyBelow (suc n) test = anyBelow n test || test n

@@ -8,14 +8,14 @@ use Prim.Native.Nat.{ℕ, suc, _<_, _≤_}
 use native.Mathlib.Nat.{eq-or-lt-of-le}
 use native.Mathlib.Omega.{arith}
 use borrow.Author.Tests.{leb-true, le-leb}
-use Rattle.lists.specs.Loops.{any}
+use Rattle.lists.specs.Loops.{anyBelow}
 use Rattle.lists.proofs.Loops.{and-both, both-and, or-either, or-right, any-some, any-stop}
 use Rattle.network.specs.declared.link.Link.{Link}
 use Rattle.network.specs.declared.joined.Nodes.{Nodes}
 use Rattle.network.specs.Network.{Relations, relationCount}
 use Rattle.network.specs.Graph.{node, relationAt, ahead, linksOf}
 use Rattle.network.specs.Triple.{connected, entered, departed}
-use Rattle.network.specs.Nodes.{sideNodes, elementNodes, within, joined, linkLeads, relationLeads}
+use Rattle.network.specs.inner.Nodes.{sideNodes, elementNodes, within, joined, linkLeads, relationLeads}
 use Rattle.network.proofs.Links.{Leads, external-leads, leads-external}
 use Rattle.network.proofs.Connected.{connected-external, external-connected}
 
@@ -113,14 +113,14 @@ module _ (elements : ℕ) (rs : Relations) (sources targets : Nodes) where
       (λ b. let p = link-told _ b in record { source = _; target = _; starts = p .0; ends = p .1; edge = external-connected (linksOf elements rs) _ _ (leads-external elements rs _ _ k h (inr (p .2))) })
       (or-either _ _ e)
 
-  edged-relation : Edged (linksOf elements rs) sources targets → any (relationCount rs) leads ≡ true
+  edged-relation : Edged (linksOf elements rs) sources targets → anyBelow (relationCount rs) leads ≡ true
   unfolding relationLeads
   edged-relation E =
       let k = external-leads elements rs (E .source) (E .target) (connected-external (linksOf elements rs) _ _ (E .edge)) in
       let there : leads (k .0) ≡ true = ⊎-elim (λ a. or-left _ _ (told-link _ _ _ (E .starts) (E .ends) a)) (λ b. or-last (linkLeads sources targets (ahead elements (relationAt rs (k .0)))) _ (told-link _ _ _ (E .starts) (E .ends) b)) (k .2) in
       sym (any-stop (k .0) _ _ (k .1) there)
 
-  pub joined-relations : any (relationCount rs) leads ≡ joined (linksOf elements rs) sources targets
+  pub joined-relations : anyBelow (relationCount rs) leads ≡ joined (linksOf elements rs) sources targets
   joined-relations =
       same-answer _ _ (λ e. let k = any-some _ _ e in edged-joined _ _ _ (relation-edged (k .0) (k .1) (k .2))) (λ e. edged-relation (joined-edged _ _ _ e))
 

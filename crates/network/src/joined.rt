@@ -10,8 +10,8 @@ ghost use mathlib.Core.Path.{_≡_};
 ghost use Prim.Native.Nat.{_≤_};
 ghost use Rattle.network.specs.Network.{Relations, relationsOf};
 ghost use Rattle.network.specs.Graph.{linksOf};
-ghost use Rattle.network.specs.Sound.{Even, Narrow};
-ghost use Rattle.network.specs.Nodes.{within, sideNodes, elementNodes, linkLeads, relationLeads, joined};
+ghost use Rattle.network.specs.inner.Sound.{RelationsFit, FieldsOf32Bits};
+ghost use Rattle.network.specs.inner.Nodes.{within, sideNodes, elementNodes, linkLeads, relationLeads, joined};
 
 // The nodes from one to another.
 pub struct Nodes {
@@ -56,7 +56,7 @@ fn link_leads(sources: Nodes, targets: Nodes, l: Link) -> bool
 }
 
 fn relation_leads(elements: usize, sources: Nodes, targets: Nodes, r: Relation) -> bool
-    requires { ⌜ Narrow r ⌝ }
+    requires { ⌜ FieldsOf32Bits r ⌝ }
     ensures { λ b. ⌜ b ≡ relationLeads elements sources targets r ⌝ }
 {
     if link_leads(sources, targets, link_ahead(elements, r)) {
@@ -79,7 +79,7 @@ pub fn are_joined(
 ) -> bool
     ghost { Relations }
     requires { λ rs. ⌜ relationsOf (now from) (now to) (now «from_side») (now «to_side») (now forward) (now backward) ≡ rs ⌝ }
-    requires { λ rs. ⌜ Even rs ⌝ }
+    requires { λ rs. ⌜ RelationsFit rs ⌝ }
     ensures { λ rs r. ⌜ r ≡ joined (linksOf elements rs) sources targets ⌝ }
 {
     for k in 0..from.len() {

@@ -10,11 +10,12 @@ ghost use mathlib.Core.Path.{_≡_};
 ghost use mathlib.Core.List.{_++_, reverse};
 ghost use Prim.Native.Nat.{ℕ, _*_, _<_, _≤_};
 ghost use lib.ListN.{length, getD, drop};
-ghost use Rattle.network.specs.Graph.{Graph, count};
-ghost use Rattle.network.specs.Compiled.{graphIn};
-ghost use Rattle.network.specs.Sound.{Sound};
+ghost use Rattle.network.specs.Graph.{Graph, elementCount};
+ghost use Rattle.network.specs.inner.Compiled.{graphIn};
+ghost use Rattle.network.specs.inner.Sound.{SoundGraph};
 ghost use Rattle.routing.specs.Search.{searched};
-ghost use Rattle.routing.specs.Route.{stepsBack, back, listingOf, endListing, statesOfEnd, stored};
+ghost use Rattle.routing.specs.Route.{stepsBack, statesBack, routeFitted, statesOfEnd, statesStored};
+ghost use Rattle.routing.specs.inner.Goals.{endAnswer};
 
 fn state_number(x: u16) -> u32
     ensures { λ r. ⌜ r ≡ x ⌝ }
@@ -43,7 +44,7 @@ fn write_back(preds: &[u16; 4096], s: usize, n: usize, states: &mut [u32])
     requires { ⌜ s < 4096 ⌝ }
     requires { ⌜ ((k : ℕ) → getD (now preds) k 0 < 4096) ⌝ }
     requires { ⌜ n ≤ length (now states) ⌝ }
-    ensures { λ _. ⌜ now (states .exit) ≡ reverse (back (now (preds .entry)) n s) ++ drop n (now (states .entry)) ⌝ }
+    ensures { λ _. ⌜ now (states .exit) ≡ reverse (statesBack (now (preds .entry)) n s) ++ drop n (now (states .entry)) ⌝ }
 {
     let mut at = s as u32;
     let mut i = n;
@@ -65,8 +66,8 @@ fn list_back(
 ) -> Listing
     requires { ⌜ s < 4096 ⌝ }
     requires { ⌜ ((k : ℕ) → getD (now preds) k 0 < 4096) ⌝ }
-    ensures { λ r. ⌜ r ≡ listingOf (Route.Cost cost) (stepsBack (now (preds .entry)) start most s) (length (now (states .entry))) ⌝ }
-    ensures { λ r. ⌜ now (states .exit) ≡ stored r (reverse (back (now (preds .entry)) (stepsBack (now (preds .entry)) start most s) s)) (now (states .entry)) ⌝ }
+    ensures { λ r. ⌜ r ≡ routeFitted (Route.Cost cost) (stepsBack (now (preds .entry)) start most s) (length (now (states .entry))) ⌝ }
+    ensures { λ r. ⌜ now (states .exit) ≡ statesStored r (reverse (statesBack (now (preds .entry)) (stepsBack (now (preds .entry)) start most s) s)) (now (states .entry)) ⌝ }
 {
     let n = steps_back(preds, start, most, s);
     if states.len() < n {
@@ -87,10 +88,10 @@ pub fn states_between(
 ) -> Listing
     ghost { Graph }
     requires { λ g. ⌜ graphIn (now lengths) (now heads) (now links) ≡ g ⌝ }
-    requires { λ g. ⌜ Sound g ⌝ }
-    requires { λ g. ⌜ start < 2 * count g ⌝ }
-    ensures { λ g r. ⌜ r ≡ endListing g start goal (length (now (states .entry))) ⌝ }
-    ensures { λ g r. ⌜ now (states .exit) ≡ stored r (statesOfEnd (2 * start) (4 * count g) (searched g start goal)) (now (states .entry)) ⌝ }
+    requires { λ g. ⌜ SoundGraph g ⌝ }
+    requires { λ g. ⌜ start < 2 * elementCount g ⌝ }
+    ensures { λ g r. ⌜ r ≡ endAnswer g start goal (length (now (states .entry))) ⌝ }
+    ensures { λ g r. ⌜ now (states .exit) ≡ statesStored r (statesOfEnd (2 * start) (4 * elementCount g) (searched g start goal)) (now (states .entry)) ⌝ }
 {
     let mut costs = no_costs();
     let mut preds = no_preds();

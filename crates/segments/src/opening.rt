@@ -16,8 +16,8 @@ use network::check::check_network;
 use rows::previous::best_previous;
 ghost use mathlib.Core.Path.{_≡_};
 ghost use Rattle.network.specs.Network.{Network, networkOf, checked};
-ghost use Rattle.closing.specs.Close.{Scoring};
-ghost use Rattle.segments.specs.Building.{refusing, Opened, OpenedAt};
+ghost use Rattle.closing.specs.inner.Walk.{Scoring};
+ghost use Rattle.segments.specs.inner.Building.{refusing, Opened, OpenedAt};
 
 // Nothing to store: a refusal, or 0 where there are no segments.
 fn nothing_left(refusal: u32) -> Building

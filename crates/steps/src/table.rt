@@ -12,14 +12,14 @@ use transition::step::Settings;
 ghost use mathlib.Core.Path.{_≡_};
 ghost use Prim.Native.Nat.{ℕ};
 ghost use Rattle.network.specs.Network.{Network, networkOf, checked};
-ghost use Rattle.network.specs.Graph.{count, graph};
+ghost use Rattle.network.specs.Graph.{elementCount, graph};
 ghost use Rattle.transition.specs.Step.{transition};
 ghost use Rattle.journal.specs.Row.{Row};
 ghost use Rattle.journal.specs.Record.{readRow};
 ghost use Rattle.steps.specs.Steps.{stepsBetween};
-ghost use Rattle.steps.specs.Listing.{listing, fitted};
-ghost use Rattle.steps.specs.Find.{TwoRecords};
-ghost use Rattle.steps.specs.Tables.{Sized, listingOf};
+ghost use Rattle.steps.specs.Listing.{listing};
+ghost use Rattle.steps.specs.inner.Tables.{stepsFitted, Sized, rowListed};
+ghost use Rattle.steps.specs.inner.Find.{TwoRecords};
 
 // What the checks found; the predecessor's number and the row's, how many candidates the predecessor has and how many pairs there are, and their
 // steps.
@@ -70,8 +70,8 @@ fn steps_between(
         let net = networkOf (now lengths) (now headings) (now flags) (now from) (now to) (now «from_side») (now «to_side») (now forward) (now backward) in
         ⌜ (net, readRow (now previous), readRow (now own)) ≡ α ⌝ }
     requires { λ (net, p, r). ⌜ checked net ≡ Checked.Accepted ⌝ }
-    requires { λ (net, p, r). ⌜ TwoRecords (count (graph net)) (now own) (now previous) ⌝ }
-    ensures { λ (net, p, r) x. ⌜ Sized x × ((room : ℕ) → listingOf x room ≡ fitted (stepsBetween (transition net settings) «predecessor_row» p row r) room) ⌝ }
+    requires { λ (net, p, r). ⌜ TwoRecords (elementCount (graph net)) (now own) (now previous) ⌝ }
+    ensures { λ (net, p, r) x. ⌜ Sized x × ((room : ℕ) → rowListed x room ≡ stepsFitted (stepsBetween (transition net settings) «predecessor_row» p row r) room) ⌝ }
 {
     let mut heads = no_heads();
     let mut links = no_links();
@@ -133,7 +133,7 @@ pub fn find_steps(
     ensures { λ x.
         let net = networkOf (now (lengths .entry)) (now (headings .entry)) (now (flags .entry))
         (now (from .entry)) (now (to .entry)) (now («from_side» .entry)) (now («to_side» .entry)) (now (forward .entry)) (now (backward .entry)) in
-        ⌜ Sized x × ((room : ℕ) → listingOf x room ≡ listing net settings (now (journal .entry)) row room) ⌝ }
+        ⌜ Sized x × ((room : ℕ) → rowListed x room ≡ listing net settings (now (journal .entry)) row room) ⌝ }
 {
     let found = check_row(
         lengths,

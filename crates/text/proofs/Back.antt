@@ -13,9 +13,9 @@ use lib.Ieee.{Float, fits, binary64, toBits}
 use lib.Ieee.Bits.{ofBits-toBits, toBits-lt}
 use borrow.Author.Tests.{lt-ltb, le-ltb, eq-eqb, ne-eqb, eqb-true, ltb-true, ltb-false}
 use Rattle.lists.proofs.Loops.{two, and-both}
-use Rattle.text.specs.Numbers.{figure, digits, value, whole, numberOf, hexWordOf}
-use Rattle.text.specs.Floats.{bitsOf, floatOf}
-use Rattle.text.specs.Written.{glyph, lastDigits, zeros, decimal, hexWord, hexFloat}
+use Rattle.text.specs.inner.Numbers.{figure, allDigits, value, valueBelow, numberOf, hexWordOf}
+use Rattle.text.specs.inner.Floats.{bitsOf, floatOf}
+use Rattle.text.specs.inner.Written.{glyph, lastDigits, zeros, decimal, hexWord, hexFloat}
 use Rattle.text.specs.declared.number.Number.{Number}
 use Rattle.text.specs.declared.float.Float64.{Float64}
 use Rattle.text.proofs.Numbers.{figure-decimal, figure-letter}
@@ -32,8 +32,8 @@ figure-glyph d h = ⊎-elim (λ t. low (ltb-true _ _ t)) (λ t. high (ltb-false 
     high : 10 ≤ d → figure (glyph d) ≡ d
     high l = rw (le-ltb d 10 l) (sym (figure-letter (65 + (d - 10)) (omega arith) (omega arith)) ∙ omega arith)
 
-digits-written : (base k n : ℕ) → 1 ≤ base → base ≤ 16 → digits base (lastDigits base k n) ≡ true
-unfolding digits lastDigits
+digits-written : (base k n : ℕ) → 1 ≤ base → base ≤ 16 → allDigits base (lastDigits base k n) ≡ true
+unfolding allDigits lastDigits
 digits-written base zero n h l = refl
 digits-written base (suc k) n h l =
     let small : n / base ^ k % base < base = mod-lt (n / base ^ k) h in
@@ -57,11 +57,11 @@ value-written base (suc k) m n h l =
 
 -- ---- numbers and words
 
-digits-drop : (base k : ℕ) (l : List ℕ) → digits base l ≡ true → digits base (drop k l) ≡ true
-unfolding digits
+digits-drop : (base k : ℕ) (l : List ℕ) → allDigits base l ≡ true → allDigits base (drop k l) ≡ true
+unfolding allDigits
 digits-drop base zero l h = h
 digits-drop base (suc k) [] h = refl
-digits-drop base (suc k) (b ∷ l) h = digits-drop base k l (and-both (ltb (figure b) base) (digits base l) h .1)
+digits-drop base (suc k) (b ∷ l) h = digits-drop base k l (and-both (ltb (figure b) base) (allDigits base l) h .1)
 
 figure-zero : figure 48 ≡ 0
 unfolding figure
@@ -93,22 +93,22 @@ some-left [] h e = omega arith
 some-left (b ∷ l) h e = omega (arith, length-drop (zeros (b ∷ l)) (b ∷ l), zeros-less b l)
 
 -- a number below the limit that its digits write
-whole-written : (base limit n : ℕ) (l : List ℕ) → digits base l ≡ true → value base 0 l ≡ n → n < limit → whole base limit 0 l ≡ n
-unfolding whole
+whole-written : (base limit n : ℕ) (l : List ℕ) → allDigits base l ≡ true → value base 0 l ≡ n → n < limit → valueBelow base limit 0 l ≡ n
+unfolding valueBelow
 whole-written base limit n l d v h = rw (d, v) (omega arith)
 
 pub number-back : (n : ℕ) → n < 4294967296 → numberOf (decimal n) ≡ Number.Value n
 unfolding numberOf decimal
 number-back n h =
     let ten = lastDigits 10 10 n in
-    let d : digits 10 (drop (zeros ten) ten) ≡ true = digits-drop 10 (zeros ten) ten (digits-written 10 10 n (omega arith) (omega arith)) in
+    let d : allDigits 10 (drop (zeros ten) ten) ≡ true = digits-drop 10 (zeros ten) ten (digits-written 10 10 n (omega arith) (omega arith)) in
     let v : value 10 0 (drop (zeros ten) ten) ≡ n = value-zeros ten ∙ value-written 10 10 0 n (omega arith) (omega arith) ∙ omega arith in
     rw (ne-eqb _ _ (some-left ten (omega (arith, length-digits 10 10 n))), whole-written 10 4294967296 n _ d v h, lt-ltb n 4294967296 h)
 
 pub word-back : (w : ℕ) → w < 4294967296 → hexWordOf (hexWord w) ≡ Number.Value w
 unfolding hexWordOf
 word-back w h =
-    let d : digits 16 (lastDigits 16 8 w) ≡ true = digits-written 16 8 w (omega arith) (omega arith) in
+    let d : allDigits 16 (lastDigits 16 8 w) ≡ true = digits-written 16 8 w (omega arith) (omega arith) in
     let v : value 16 0 (lastDigits 16 8 w) ≡ w = value-written 16 8 0 w (omega arith) (omega arith) ∙ omega arith in
     rw (eq-eqb _ _ (length-digits 16 8 w), whole-written 16 4294967296 w _ d v h, lt-ltb w 4294967296 h)
 
@@ -116,6 +116,6 @@ pub float-back : (x : Float) → T (fits binary64 x) → floatOf (hexFloat x) �
 unfolding floatOf bitsOf
 float-back x h =
     let b = toBits binary64 x in
-    let d : digits 16 (lastDigits 16 16 b) ≡ true = digits-written 16 16 b (omega arith) (omega arith) in
+    let d : allDigits 16 (lastDigits 16 16 b) ≡ true = digits-written 16 16 b (omega arith) (omega arith) in
     let v : value 16 0 (lastDigits 16 16 b) ≡ b = value-written 16 16 0 b (omega arith) (omega arith) ∙ omega (arith, toBits-lt binary64 x h) in
     rw (eq-eqb _ _ (length-digits 16 16 b), d, v, ofBits-toBits binary64 x h)

@@ -9,7 +9,7 @@ use lib.Dec.{eqb}
 use lib.ListN.{length, getD, drop, drop-of-length-le}
 use lib.Seq.{drop-cons}
 use borrow.Author.Tests.{eq-eqb, ne-eqb}
-use Rattle.text.specs.Bytes.{same}
+use Rattle.text.specs.inner.Bytes.{same}
 
 pub and-false : (a : Bool) → a && false ≡ false
 and-false true = refl

@@ -21,8 +21,8 @@ use borrow.Author.Tests.{eq-eqb, ne-eqb, le-leb, lt-leb, leb-true, leb-false}
 use Rattle.lists.proofs.Loops.{two}
 use Rattle.journal.proofs.Stores.{take-rest}
 use Rattle.binary64.proofs.Bounds.{whole-is}
-use Rattle.text.specs.Numbers.{digits, value, whole}
-use Rattle.text.specs.Floats.{bitsOf, point, decimalOf}
+use Rattle.text.specs.inner.Numbers.{allDigits, value, valueBelow}
+use Rattle.text.specs.inner.Floats.{bitsOf, point, decimalOf}
 use Rattle.text.specs.declared.float.Float64.the-variants.{Value, Unreadable}
 use Rattle.text.proofs.Bytes.{and-false}
 use Rattle.text.proofs.Numbers.{whole-good, whole-bad, digits-append, value-append, value-from, value-lt}
@@ -99,7 +99,7 @@ whole-counts n h = le→leb n 9007199254740992 h
 -- ---- bits
 
 -- a part of eight digits is below 2 to the 32, so where it is not, a byte is no digit
-pub eight-bad : (l : List ℕ) → length l ≡ 8 → 4294967296 ≤ whole 16 4294967296 0 l → digits 16 l ≡ false
+pub eight-bad : (l : List ℕ) → length l ≡ 8 → 4294967296 ≤ valueBelow 16 4294967296 0 l → allDigits 16 l ≡ false
 eight-bad l e h = whole-bad 16 4294967296 0 l h (λ d. subst (λ n. value 16 0 l < 1 * 16 ^ n) e (value-lt 16 l 0 1 (zero-lt-suc 0) d))
 
 module _ (w : List ℕ) (e : length w ≡ 16) where
@@ -109,8 +109,8 @@ module _ (w : List ℕ) (e : length w ≡ 16) where
   back-eight : length (drop 8 w) ≡ 8
   back-eight = length-drop 8 w ∙ omega arith
 
-  halves-digits : digits 16 w ≡ digits 16 (take 8 w) && digits 16 (drop 8 w)
-  halves-digits = ap (digits 16) (sym (take-append-drop 8 w)) ∙ digits-append 16 (take 8 w) (drop 8 w)
+  halves-digits : allDigits 16 w ≡ allDigits 16 (take 8 w) && allDigits 16 (drop 8 w)
+  halves-digits = ap (allDigits 16) (sym (take-append-drop 8 w)) ∙ digits-append 16 (take 8 w) (drop 8 w)
 
   halves-value : value 16 0 w ≡ value 16 0 (take 8 w) * 4294967296 + value 16 0 (drop 8 w)
   halves-value =
@@ -119,15 +119,15 @@ module _ (w : List ℕ) (e : length w ≡ 16) where
       ∙ value-from 16 (value 16 0 (take 8 w)) (drop 8 w)
       ∙ ap (λ n. value 16 0 (take 8 w) * 16 ^ n + value 16 0 (drop 8 w)) back-eight
 
-  pub bits-front-bad : 4294967296 ≤ whole 16 4294967296 0 (take 8 w) → Unreadable ≡ bitsOf w
+  pub bits-front-bad : 4294967296 ≤ valueBelow 16 4294967296 0 (take 8 w) → Unreadable ≡ bitsOf w
   unfolding bitsOf
   bits-front-bad h = rw (eq-eqb _ _ e, halves-digits, eight-bad (take 8 w) front-eight h)
 
-  pub bits-back-bad : 4294967296 ≤ whole 16 4294967296 0 (drop 8 w) → Unreadable ≡ bitsOf w
+  pub bits-back-bad : 4294967296 ≤ valueBelow 16 4294967296 0 (drop 8 w) → Unreadable ≡ bitsOf w
   unfolding bitsOf
-  bits-back-bad h = rw (eq-eqb _ _ e, halves-digits, eight-bad (drop 8 w) back-eight h, and-false (digits 16 (take 8 w)))
+  bits-back-bad h = rw (eq-eqb _ _ e, halves-digits, eight-bad (drop 8 w) back-eight h, and-false (allDigits 16 (take 8 w)))
 
-  pub bits-good : (high low : ℕ) → high ≡ whole 16 4294967296 0 (take 8 w) → low ≡ whole 16 4294967296 0 (drop 8 w) → high < 4294967296 → low < 4294967296
+  pub bits-good : (high low : ℕ) → high ≡ valueBelow 16 4294967296 0 (take 8 w) → low ≡ valueBelow 16 4294967296 0 (drop 8 w) → high < 4294967296 → low < 4294967296
       → Value (ofBits binary64 (high * 4294967296 + low)) ≡ bitsOf w
   unfolding bitsOf
   bits-good high low p q h k =
@@ -155,7 +155,7 @@ behind-length : (w : List ℕ) (p start : ℕ) → start ≡ min (suc p) (length
 behind-length w p start e = sym (length-drop (suc p) w ∙ omega arith)
 
 -- at most 15 digits are below 10 to the 15
-few : (l : List ℕ) (n m : ℕ) → n < 10 ^ m → m + length l ≤ 15 → digits 10 l ≡ true → value 10 n l < 1000000000000000
+few : (l : List ℕ) (n m : ℕ) → n < 10 ^ m → m + length l ≤ 15 → allDigits 10 l ≡ true → value 10 n l < 1000000000000000
 few l n m h e d = lt-of-lt-of-le (value-lt 10 l n (10 ^ m) h d) (rw (← pow-add 10 m (length l)) (ten-small (m + length l) e))
 
 pub decimal-empty : (s : Bool) (w : List ℕ) (p : ℕ) → p ≡ point w → p ≡ 0 → Unreadable ≡ decimalOf s w
@@ -183,30 +183,30 @@ module _ (s : Bool) (w : List ℕ) (p start : ℕ) (e : p ≡ point w) (at : sta
       front-length : length (take p w) ≡ p
       front-length = length-take-le p w (rw e (point-le w))
 
-      pub decimal-front-bad : 1000000000000000 ≤ whole 10 1000000000000000 0 (take p w) → Unreadable ≡ decimalOf s w
+      pub decimal-front-bad : 1000000000000000 ≤ valueBelow 10 1000000000000000 0 (take p w) → Unreadable ≡ decimalOf s w
       unfolding decimalOf
       decimal-front-bad h =
-          let f : digits 10 (take p w) ≡ false = whole-bad 10 1000000000000000 0 (take p w) h (few (take p w) 0 0 (zero-lt-suc 0) (omega (arith, front-length))) in
+          let f : allDigits 10 (take p w) ≡ false = whole-bad 10 1000000000000000 0 (take p w) h (few (take p w) 0 0 (zero-lt-suc 0) (omega (arith, front-length))) in
           rw (← e, ne-eqb p 0 some, not-last, few-digits, f)
 
-      module _ (front : ℕ) (is : front ≡ whole 10 1000000000000000 0 (take p w)) (below : front < 1000000000000000) where
-        front-good : (digits 10 (take p w) ≡ true) × (whole 10 1000000000000000 0 (take p w) ≡ value 10 0 (take p w))
+      module _ (front : ℕ) (is : front ≡ valueBelow 10 1000000000000000 0 (take p w)) (below : front < 1000000000000000) where
+        front-good : (allDigits 10 (take p w) ≡ true) × (valueBelow 10 1000000000000000 0 (take p w) ≡ value 10 0 (take p w))
         front-good = whole-good 10 1000000000000000 0 (take p w) (rw is at below)
 
         front-small : front < 10 ^ p
         front-small = rw (is, front-good .1) (subst (λ n. value 10 0 (take p w) < n) (one-mul (10 ^ length (take p w)) ∙ ap (λ k. 10 ^ k) front-length) (value-lt 10 (take p w) 0 1 (zero-lt-suc 0) (front-good .0)))
 
-        pub decimal-behind-bad : 1000000000000000 ≤ whole 10 1000000000000000 front (take (length w - start) (drop start w)) → Unreadable ≡ decimalOf s w
+        pub decimal-behind-bad : 1000000000000000 ≤ valueBelow 10 1000000000000000 front (take (length w - start) (drop start w)) → Unreadable ≡ decimalOf s w
         unfolding decimalOf
         decimal-behind-bad h =
-            let f : digits 10 (drop (suc p) w) ≡ false = whole-bad 10 1000000000000000 front (drop (suc p) w) (rw (behind-part w p start at) at h) (few (drop (suc p) w) front p front-small (leb-true _ _ few-digits)) in
+            let f : allDigits 10 (drop (suc p) w) ≡ false = whole-bad 10 1000000000000000 front (drop (suc p) w) (rw (behind-part w p start at) at h) (few (drop (suc p) w) front p front-small (leb-true _ _ few-digits)) in
             rw (← e, ne-eqb p 0 some, not-last, few-digits, front-good .0, f)
 
-        pub decimal-good : (n : ℕ) (x : Float) → n ≡ whole 10 1000000000000000 front (take (length w - start) (drop start w)) → n < 1000000000000000
+        pub decimal-good : (n : ℕ) (x : Float) → n ≡ valueBelow 10 1000000000000000 front (take (length w - start) (drop start w)) → n < 1000000000000000
             → x ≡ round binary64 s n (10 ^ (length w - start)) → Value x ≡ decimalOf s w
         unfolding decimalOf
         decimal-good n x i l r =
-            let j : n ≡ whole 10 1000000000000000 front (drop (suc p) w) = i ∙ ap (whole 10 1000000000000000 front) (behind-part w p start at) in
+            let j : n ≡ valueBelow 10 1000000000000000 front (drop (suc p) w) = i ∙ ap (valueBelow 10 1000000000000000 front) (behind-part w p start at) in
             let g = whole-good 10 1000000000000000 front (drop (suc p) w) (rw j at l) in
             rw (r, behind-length w p start at, ← e, ne-eqb p 0 some, not-last, few-digits, front-good .0, g .0, j, g .1, is, front-good .1)
 

@@ -9,9 +9,9 @@ use mathlib.Core.List.{List, [], _∷_, map}
 use lib.Arith.{lt-of-le-ne}
 use lib.ListN.{length, getD, List·getD-eq-default}
 use borrow.Author.Tests.{eq-eqb, ne-eqb}
-use Rattle.text.specs.Bytes.{bytes, same}
-use Rattle.text.specs.Words.{breaks, commented, gap, run, nextWord, bytesOf, wordsFrom, allWords}
-use Rattle.text.specs.Keywords.{found, keywords, keywordOf, slices, sliceOf, placeIn}
+use Rattle.text.specs.inner.Bytes.{bytes, same}
+use Rattle.text.specs.inner.Words.{breaks, commented, gap, wordLength, nextWord, bytesOf, wordsFrom, allWords}
+use Rattle.text.specs.inner.Keywords.{entryFor, keywords, keywordOf, slices, sliceOf, placeIn}
 use Rattle.text.specs.declared.keyword.Keyword.{Keyword}
 use Rattle.text.specs.declared.keyword.Slice.{Slice}
 use Rattle.text.specs.declared.word.Word.{Word}
@@ -45,23 +45,23 @@ place-turn n text at k w next i h e t =
     rw (f, ← i, ne-eqb _ _ e, t, add-suc, add-one, suc-add)
 
 -- ---- the table
-pub found-at : {A : Type 0} (other : A) (table : List (List ℕ × A)) (w : List ℕ) → found other table w ≡ getD (map (λ e. e .1) table) (placeIn (map (λ e. e .0) table) w) other
-unfolding found placeIn
+pub found-at : {A : Type 0} (other : A) (table : List (List ℕ × A)) (w : List ℕ) → entryFor other table w ≡ getD (map (λ e. e .1) table) (placeIn (map (λ e. e .0) table) w) other
+unfolding entryFor placeIn
 found-at other [] w = refl
 found-at other (e ∷ table) w = go (same w (e .0)) (found-at other table w)
   where
-    go : (t : Bool) → found other table w ≡ getD (map (λ e. e .1) table) (placeIn (map (λ e. e .0) table) w) other
-        → cond t (e .1) (found other table w) ≡ getD (e .1 ∷ map (λ e. e .1) table) (cond t 0 (suc (placeIn (map (λ e. e .0) table) w))) other
+    go : (t : Bool) → entryFor other table w ≡ getD (map (λ e. e .1) table) (placeIn (map (λ e. e .0) table) w) other
+        → cond t (e .1) (entryFor other table w) ≡ getD (e .1 ∷ map (λ e. e .1) table) (cond t 0 (suc (placeIn (map (λ e. e .0) table) w))) other
     go true h = refl
     go false h = h
 
 -- the names of each table stand in one text
 keyword-names : allWords (bytes "network settings journal feed open strike poke short words close row steps route routes triple segments collapse kept") ≡ map (λ e. e .0) keywords
-unfolding allWords wordsFrom nextWord gap run breaks commented
+unfolding allWords wordsFrom nextWord gap wordLength breaks commented
 keyword-names = refl
 
 slice-names : allWords (bytes "lengths headings flags from to from_side to_side forward backward elements intrinsics near raw_logs distances answer decisions") ≡ map (λ e. e .0) slices
-unfolding allWords wordsFrom nextWord gap run breaks commented
+unfolding allWords wordsFrom nextWord gap wordLength breaks commented
 slice-names = refl
 
 -- k is no number below n, as the last arm of a match leaves it
@@ -75,7 +75,7 @@ above k (suc n) h = lt-of-le-ne (above k n (h .0)) (λ e. h .1 (sym e))
 
 -- the entry of a table at the word's number
 at-place : {A : Type 0} (other : A) (table : List (List ℕ × A)) (names : List (List ℕ)) (w : List ℕ) (k j : ℕ) → names ≡ map (λ e. e .0) table → k ≡ placeIn names w → k ≡ j
-    → getD (map (λ e. e .1) table) j other ≡ found other table w
+    → getD (map (λ e. e .1) table) j other ≡ entryFor other table w
 at-place other table names w k j n e h =
     ap (λ i. getD (map (λ e. e .1) table) i other) (sym h ∙ e ∙ ap (λ ns. placeIn ns w) n) ∙ sym (found-at other table w)
 

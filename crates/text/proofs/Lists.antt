@@ -6,20 +6,20 @@ use mathlib.Core.List.{List}
 use lib.ListN.{length, set}
 use lib.Seq.{set-out}
 use lib.Ieee.{Float}
-use Rattle.text.specs.Lists.{entered, numberInto, floatInto, elementsOf, element, relationsOf, relation, candidatesOf, candidate, segmentsOf, segment}
+use Rattle.text.specs.inner.Lists.{entryStored, numberInto, floatInto, elementsReadOf, element, relationsReadOf, relation, candidatesReadOf, candidate, segmentsReadOf, segment}
 use Rattle.text.specs.declared.cursor.Cursor.{Cursor}
 
 module _ {A : Type 0} (i : ℕ) (c : Cursor) (v : A) (xs : List A) where
-  pub entered-not : c .bad ≡ true → (c ≡ entered i c v xs .0) × (xs ≡ entered i c v xs .1)
-  unfolding entered
+  pub entered-not : c .bad ≡ true → (c ≡ entryStored i c v xs .0) × (xs ≡ entryStored i c v xs .1)
+  unfolding entryStored
   entered-not e = (refl, sym (ap (λ b. cond b xs (set xs i v)) e))
 
-  pub entered-in : c .bad ≡ false → (c ≡ entered i c v xs .0) × (set xs i v ≡ entered i c v xs .1)
-  unfolding entered
+  pub entered-in : c .bad ≡ false → (c ≡ entryStored i c v xs .0) × (set xs i v ≡ entryStored i c v xs .1)
+  unfolding entryStored
   entered-in e = (refl, sym (ap (λ b. cond b xs (set xs i v)) e))
 
-  pub entered-out : c .bad ≡ false → length xs ≤ i → (c ≡ entered i c v xs .0) × (xs ≡ entered i c v xs .1)
-  unfolding entered
+  pub entered-out : c .bad ≡ false → length xs ≤ i → (c ≡ entryStored i c v xs .0) × (xs ≡ entryStored i c v xs .1)
+  unfolding entryStored
   entered-out e h = (refl, sym (ap (λ b. cond b xs (set xs i v)) e ∙ set-out xs i v h))
 
 -- ---- the words of an entry, stored one after the other
@@ -32,7 +32,7 @@ pub element-stored : (text : List ℕ) (k : ℕ) (c : Cursor) (lengths : List Fl
     → (c4 ≡ floatInto text (4 * k + 2) c3 headings2 .0) × (headings3 ≡ floatInto text (4 * k + 2) c3 headings2 .1)
     → (c5 ≡ floatInto text (4 * k + 3) c4 headings3 .0) × (headings4 ≡ floatInto text (4 * k + 3) c4 headings3 .1)
     → (c6 ≡ numberInto text k c5 flags .0) × (flags1 ≡ numberInto text k c5 flags .1)
-    → elementsOf c6 lengths1 headings4 flags1 ≡ element text k (elementsOf c lengths headings flags)
+    → elementsReadOf c6 lengths1 headings4 flags1 ≡ element text k (elementsReadOf c lengths headings flags)
 unfolding element
 element-stored text k c lengths headings flags c1 c2 c3 c4 c5 c6 lengths1 headings1 headings2 headings3 headings4 flags1 e1 e2 e3 e4 e5 e6 = rw (e6 .0, e6 .1, e5 .0, e5 .1, e4 .0, e4 .1, e3 .0, e3 .1, e2 .0, e2 .1, e1 .0, e1 .1)
 
@@ -44,7 +44,7 @@ pub relation-stored : (text : List ℕ) (k : ℕ) (c : Cursor) (from : List ℕ)
     → (c4 ≡ numberInto text k c3 toSide .0) × (toSide1 ≡ numberInto text k c3 toSide .1)
     → (c5 ≡ numberInto text k c4 forward .0) × (forward1 ≡ numberInto text k c4 forward .1)
     → (c6 ≡ numberInto text k c5 backward .0) × (backward1 ≡ numberInto text k c5 backward .1)
-    → relationsOf c6 from1 to1 fromSide1 toSide1 forward1 backward1 ≡ relation text k (relationsOf c from to fromSide toSide forward backward)
+    → relationsReadOf c6 from1 to1 fromSide1 toSide1 forward1 backward1 ≡ relation text k (relationsReadOf c from to fromSide toSide forward backward)
 unfolding relation
 relation-stored text k c from to fromSide toSide forward backward c1 c2 c3 c4 c5 c6 from1 to1 fromSide1 toSide1 forward1 backward1 e1 e2 e3 e4 e5 e6 = rw (e6 .0, e6 .1, e5 .0, e5 .1, e4 .0, e4 .1, e3 .0, e3 .1, e2 .0, e2 .1, e1 .0, e1 .1)
 
@@ -54,7 +54,7 @@ pub candidate-stored : (text : List ℕ) (k : ℕ) (c : Cursor) (elements : List
     → (c2 ≡ floatInto text k c1 intrinsics .0) × (intrinsics1 ≡ floatInto text k c1 intrinsics .1)
     → (c3 ≡ numberInto text k c2 near .0) × (near1 ≡ numberInto text k c2 near .1)
     → (c4 ≡ floatInto text k c3 rawLogs .0) × (rawLogs1 ≡ floatInto text k c3 rawLogs .1)
-    → candidatesOf c4 elements1 intrinsics1 near1 rawLogs1 ≡ candidate text k (candidatesOf c elements intrinsics near rawLogs)
+    → candidatesReadOf c4 elements1 intrinsics1 near1 rawLogs1 ≡ candidate text k (candidatesReadOf c elements intrinsics near rawLogs)
 unfolding candidate
 candidate-stored text k c elements intrinsics near rawLogs c1 c2 c3 c4 elements1 intrinsics1 near1 rawLogs1 e1 e2 e3 e4 = rw (e4 .0, e4 .1, e3 .0, e3 .1, e2 .0, e2 .1, e1 .0, e1 .1)
 
@@ -65,7 +65,7 @@ pub segment-stored : (text : List ℕ) (k : ℕ) (c : Cursor) (elements : List �
     → (c3 ≡ floatInto text k c2 ends .0) × (ends1 ≡ floatInto text k c2 ends .1)
     → (c4 ≡ numberInto text k c3 firsts .0) × (firsts1 ≡ numberInto text k c3 firsts .1)
     → (c5 ≡ numberInto text k c4 lasts .0) × (lasts1 ≡ numberInto text k c4 lasts .1)
-    → segmentsOf c5 elements1 starts1 ends1 firsts1 lasts1 ≡ segment text k (segmentsOf c elements starts ends firsts lasts)
+    → segmentsReadOf c5 elements1 starts1 ends1 firsts1 lasts1 ≡ segment text k (segmentsReadOf c elements starts ends firsts lasts)
 unfolding segment
 segment-stored text k c elements starts ends firsts lasts c1 c2 c3 c4 c5 elements1 starts1 ends1 firsts1 lasts1 e1 e2 e3 e4 e5 = rw (e5 .0, e5 .1, e4 .0, e4 .1, e3 .0, e3 .1, e2 .0, e2 .1, e1 .0, e1 .1)
 

@@ -11,7 +11,7 @@ use lib.ListN.{length, getD, drop, drop-of-length-le}
 use lib.Seq.{drop-cons}
 use borrow.Author.Tests.{lt-ltb, le-ltb, le-leb, lt-leb, ltb-true}
 use Rattle.lists.proofs.Loops.{and-both}
-use Rattle.text.specs.Numbers.{figure, digits, value, whole}
+use Rattle.text.specs.inner.Numbers.{figure, allDigits, value, valueBelow}
 
 -- digits never make a number smaller
 value-ge : (base n : ℕ) (l : List ℕ) → 1 ≤ base → n ≤ value base n l
@@ -23,26 +23,26 @@ value-ge base n (b ∷ l) h = le-trans (le-trans (le-mul-of-pos-right n h) (le-a
 pub next-value : (base limit n d : ℕ) → base ≤ 16 → limit ≤ 1000000000000000 → n < limit → d < base → n * base + d < 16000000000000000
 next-value base limit n d h e l k = omega (arith, mul-le-mul-left n h)
 
-pub whole-past : (base limit n : ℕ) (l : List ℕ) (k : ℕ) → length l ≤ k → n < limit → whole base limit n (drop k l) ≡ n
-unfolding whole digits value
+pub whole-past : (base limit n : ℕ) (l : List ℕ) (k : ℕ) → length l ≤ k → n < limit → valueBelow base limit n (drop k l) ≡ n
+unfolding valueBelow allDigits value
 whole-past base limit n l k h e = rw (drop-of-length-le l h) (omega arith)
 
 -- from the limit on it is the limit
-pub whole-over : (base limit n : ℕ) (l : List ℕ) → 1 ≤ base → limit ≤ n → whole base limit n l ≡ limit
-unfolding whole
-whole-over base limit n l h e = go (digits base l)
+pub whole-over : (base limit n : ℕ) (l : List ℕ) → 1 ≤ base → limit ≤ n → valueBelow base limit n l ≡ limit
+unfolding valueBelow
+whole-over base limit n l h e = go (allDigits base l)
   where
     go : (t : Bool) → cond t (min limit (value base n l)) limit ≡ limit
     go true = omega (arith, value-ge base n l h)
     go false = refl
 
-pub whole-other : (base limit n : ℕ) (l : List ℕ) (k : ℕ) → k < length l → base ≤ figure (getD l k 0) → whole base limit n (drop k l) ≡ limit
-unfolding whole digits
+pub whole-other : (base limit n : ℕ) (l : List ℕ) (k : ℕ) → k < length l → base ≤ figure (getD l k 0) → valueBelow base limit n (drop k l) ≡ limit
+unfolding valueBelow allDigits
 whole-other base limit n l k h e = rw (drop-cons l k 0 h, le-ltb _ _ e)
 
 pub whole-turn : (base limit n : ℕ) (l : List ℕ) (k : ℕ) → k < length l → figure (getD l k 0) < base
-    → whole base limit n (drop k l) ≡ whole base limit (n * base + figure (getD l k 0)) (drop (k + 1) l)
-unfolding whole digits value
+    → valueBelow base limit n (drop k l) ≡ valueBelow base limit (n * base + figure (getD l k 0)) (drop (k + 1) l)
+unfolding valueBelow allDigits value
 whole-turn base limit n l k h e = rw (add-one, drop-cons l k 0 h, lt-ltb _ _ e)
 
 -- ---- what a digit counts
@@ -68,28 +68,28 @@ figure-above b h = rw (le-leb 48 b (omega arith), lt-leb b 57 (omega arith), le-
 
 -- ---- what a number below the limit tells, and one that is not
 
-pub whole-good : (base limit n : ℕ) (l : List ℕ) → whole base limit n l < limit → (digits base l ≡ true) × (whole base limit n l ≡ value base n l)
-unfolding whole
-whole-good base limit n l h = go (digits base l) refl h
+pub whole-good : (base limit n : ℕ) (l : List ℕ) → valueBelow base limit n l < limit → (allDigits base l ≡ true) × (valueBelow base limit n l ≡ value base n l)
+unfolding valueBelow
+whole-good base limit n l h = go (allDigits base l) refl h
   where
-    go : (t : Bool) → digits base l ≡ t → cond t (min limit (value base n l)) limit < limit → (t ≡ true) × (cond t (min limit (value base n l)) limit ≡ value base n l)
+    go : (t : Bool) → allDigits base l ≡ t → cond t (min limit (value base n l)) limit < limit → (t ≡ true) × (cond t (min limit (value base n l)) limit ≡ value base n l)
     go true e k = (refl, omega arith)
     go false e k = absurd (omega arith)
 
-pub whole-bad : (base limit n : ℕ) (l : List ℕ) → limit ≤ whole base limit n l → (digits base l ≡ true → value base n l < limit) → digits base l ≡ false
-unfolding whole
-whole-bad base limit n l h f = go (digits base l) refl h
+pub whole-bad : (base limit n : ℕ) (l : List ℕ) → limit ≤ valueBelow base limit n l → (allDigits base l ≡ true → value base n l < limit) → allDigits base l ≡ false
+unfolding valueBelow
+whole-bad base limit n l h f = go (allDigits base l) refl h
   where
-    go : (t : Bool) → digits base l ≡ t → limit ≤ cond t (min limit (value base n l)) limit → t ≡ false
+    go : (t : Bool) → allDigits base l ≡ t → limit ≤ cond t (min limit (value base n l)) limit → t ≡ false
     go true e k = absurd (omega (arith, f e))
     go false e k = refl
 
 -- ---- numbers of two parts
 
-pub digits-append : (base : ℕ) (xs ys : List ℕ) → digits base (xs ++ ys) ≡ digits base xs && digits base ys
-unfolding digits
+pub digits-append : (base : ℕ) (xs ys : List ℕ) → allDigits base (xs ++ ys) ≡ allDigits base xs && allDigits base ys
+unfolding allDigits
 digits-append base [] ys = refl
-digits-append base (x ∷ xs) ys = ap (λ t. ltb (figure x) base && t) (digits-append base xs ys) ∙ sym (and-assoc (ltb (figure x) base) (digits base xs) (digits base ys))
+digits-append base (x ∷ xs) ys = ap (λ t. ltb (figure x) base && t) (digits-append base xs ys) ∙ sym (and-assoc (ltb (figure x) base) (allDigits base xs) (allDigits base ys))
 
 pub value-append : (base n : ℕ) (xs ys : List ℕ) → value base n (xs ++ ys) ≡ value base (value base n xs) ys
 unfolding value
@@ -117,10 +117,10 @@ regroup : (m base p : ℕ) → m * base * p ≡ m * (p * base)
 regroup m base p = omega arith
 
 -- so many digits are below the power
-pub value-lt : (base : ℕ) (l : List ℕ) (n m : ℕ) → n < m → digits base l ≡ true → value base n l < m * base ^ length l
-unfolding value digits
+pub value-lt : (base : ℕ) (l : List ℕ) (n m : ℕ) → n < m → allDigits base l ≡ true → value base n l < m * base ^ length l
+unfolding value allDigits
 value-lt base [] n m h e = rw (pow-zero base, mul-one) h
 value-lt base (b ∷ l) n m h e =
-    let both = and-both (ltb (figure b) base) (digits base l) e in
+    let both = and-both (ltb (figure b) base) (allDigits base l) e in
     let next : value base (n * base + figure b) l < m * base * base ^ length l = value-lt base l (n * base + figure b) (m * base) (behind n m base (figure b) h (ltb-true _ _ (both .0))) (both .1) in
     rw (pow-suc base (length l), ← regroup m base (base ^ length l)) next

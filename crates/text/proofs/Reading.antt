@@ -7,8 +7,8 @@ use mathlib.Core.Bool.{Bool, true, false, cond}
 use mathlib.Core.List.{List, [], _∷_}
 use lib.Dec.{eqb}
 use lib.ListN.{length, getD}
-use Rattle.text.specs.Words.{nextWord, bytesOf, wordsFrom, allWords}
-use Rattle.text.specs.Cursor.{along}
+use Rattle.text.specs.inner.Words.{nextWord, bytesOf, wordsFrom, allWords}
+use Rattle.text.specs.inner.Cursor.{along}
 use Rattle.text.specs.declared.word.Word.{Word}
 use Rattle.text.specs.declared.cursor.Cursor.{Cursor}
 

@@ -7,7 +7,7 @@ use mathlib.Core.Path.{_≡_, refl, sym, ap, _∙_}
 use mathlib.Core.List.{List, [], _++_}
 use lib.ListN.{length, getD, take, drop, set, length-take, length-drop, drop-of-length-le}
 use lib.Seq.{take-length, take-suc, length-take-le, drop-cons, set-at, append-snoc, getD-take, getD-drop, getD-append-add}
-use Rattle.text.specs.Window.{rest, moved}
+use Rattle.text.specs.inner.Window.{rest, moved}
 
 -- the first k bytes of one list before what follows k bytes in another: one more of them is stored
 front-turn : (xs ys l : List ℕ) (k v : ℕ) → k < length xs → k < length ys → v ≡ getD xs k 0 → l ≡ take k xs ++ drop k ys → set l k v ≡ take (k + 1) xs ++ drop (k + 1) ys

@@ -13,7 +13,7 @@ use lib.Seq.{drop-cons, getD-drop, take-all, take-nil}
 use borrow.Author.Tests.{eq-eqb, ne-eqb, leb-true, leb-false, ltb-true, ltb-false}
 use Rattle.lists.proofs.Loops.{or-right, clash, two}
 use Rattle.text.proofs.Bytes.{and-false}
-use Rattle.text.specs.Words.{breaks, commented, gap, run, nextWord, bytesOf}
+use Rattle.text.specs.inner.Words.{breaks, commented, gap, wordLength, nextWord, bytesOf}
 use Rattle.text.specs.declared.word.Word.{Word}
 
 -- past the last byte there is no gap and no word
@@ -21,8 +21,8 @@ pub gap-past : (c : Bool) (text : List ℕ) (i : ℕ) → length text ≤ i → 
 unfolding gap
 gap-past c text i h = rw (drop-of-length-le text h, add-zero)
 
-pub run-past : (text : List ℕ) (i : ℕ) → length text ≤ i → i + run (drop i text) ≡ i
-unfolding run
+pub run-past : (text : List ℕ) (i : ℕ) → length text ≤ i → i + wordLength (drop i text) ≡ i
+unfolding wordLength
 run-past text i h = rw (drop-of-length-le text h, add-zero)
 
 -- a byte that does not stand before a word starts one
@@ -35,12 +35,12 @@ pub gap-turn : (c : Bool) (text : List ℕ) (i : ℕ) → i < length text → c 
 unfolding gap
 gap-turn c text i h e = rw (add-one, drop-cons text i 0 h, e, add-suc, suc-add)
 
-pub run-stop : (text : List ℕ) (i : ℕ) → i < length text → breaks (getD text i 0) ≡ true → i + run (drop i text) ≡ i
-unfolding run
+pub run-stop : (text : List ℕ) (i : ℕ) → i < length text → breaks (getD text i 0) ≡ true → i + wordLength (drop i text) ≡ i
+unfolding wordLength
 run-stop text i h e = rw (drop-cons text i 0 h, e, add-zero)
 
-pub run-turn : (text : List ℕ) (i : ℕ) → i < length text → breaks (getD text i 0) ≡ false → i + run (drop i text) ≡ i + 1 + run (drop (i + 1) text)
-unfolding run
+pub run-turn : (text : List ℕ) (i : ℕ) → i < length text → breaks (getD text i 0) ≡ false → i + wordLength (drop i text) ≡ i + 1 + wordLength (drop (i + 1) text)
+unfolding wordLength
 run-turn text i h e = rw (add-one, drop-cons text i 0 h, e, add-suc, suc-add)
 
 -- what the tests of a byte come to
@@ -76,12 +76,12 @@ gap-le c (b ∷ l) = go (c || breaks b) (gap-le (commented c b) l)
     go true h = suc-le-suc h
     go false h = zero-le
 
-run-le : (l : List ℕ) → run l ≤ length l
-unfolding run
+run-le : (l : List ℕ) → wordLength l ≤ length l
+unfolding wordLength
 run-le [] = zero-le
 run-le (b ∷ l) = go (breaks b) (run-le l)
   where
-    go : (t : Bool) → run l ≤ length l → cond t 0 (suc (run l)) ≤ suc (length l)
+    go : (t : Bool) → wordLength l ≤ length l → cond t 0 (suc (wordLength l)) ≤ suc (length l)
     go true h = zero-le
     go false h = suc-le-suc h
 
@@ -96,23 +96,23 @@ gap-ends c (b ∷ l) h = go (c || breaks b) refl (gap-ends (commented c b) l) h
     go true e ih k = ih (le-of-suc-le-suc k)
     go false e ih k = none-right c (breaks b) e
 
-run-solid : (l : List ℕ) (k : ℕ) → k < run l → breaks (getD l k 0) ≡ false
-unfolding run
+run-solid : (l : List ℕ) (k : ℕ) → k < wordLength l → breaks (getD l k 0) ≡ false
+unfolding wordLength
 run-solid [] k h = absurd (not-suc-le-zero h)
 run-solid (b ∷ l) k h = go (breaks b) refl k h (run-solid l)
   where
-    go : (t : Bool) → breaks b ≡ t → (k : ℕ) → k < cond t 0 (suc (run l)) → ((j : ℕ) → j < run l → breaks (getD l j 0) ≡ false) → breaks (getD (b ∷ l) k 0) ≡ false
+    go : (t : Bool) → breaks b ≡ t → (k : ℕ) → k < cond t 0 (suc (wordLength l)) → ((j : ℕ) → j < wordLength l → breaks (getD l j 0) ≡ false) → breaks (getD (b ∷ l) k 0) ≡ false
     go true e k h ih = absurd (not-suc-le-zero h)
     go false e zero h ih = e
     go false e (suc k) h ih = ih k (le-of-suc-le-suc h)
 
-run-ends : (l : List ℕ) → run l < length l → breaks (getD l (run l) 0) ≡ true
-unfolding run
+run-ends : (l : List ℕ) → wordLength l < length l → breaks (getD l (wordLength l) 0) ≡ true
+unfolding wordLength
 run-ends [] h = absurd (not-suc-le-zero h)
 run-ends (b ∷ l) h = go (breaks b) refl h (run-ends l)
   where
-    go : (t : Bool) → breaks b ≡ t → cond t 0 (suc (run l)) < suc (length l) → (run l < length l → breaks (getD l (run l) 0) ≡ true)
-        → breaks (getD (b ∷ l) (cond t 0 (suc (run l))) 0) ≡ true
+    go : (t : Bool) → breaks b ≡ t → cond t 0 (suc (wordLength l)) < suc (length l) → (wordLength l < length l → breaks (getD l (wordLength l) 0) ≡ true)
+        → breaks (getD (b ∷ l) (cond t 0 (suc (wordLength l))) 0) ≡ true
     go true e h ih = e
     go false e h ih = ih (le-of-suc-le-suc h)
 
@@ -131,7 +131,7 @@ at-drop : (text : List ℕ) (i j k : ℕ) → i + j ≡ k → breaks (getD text 
 at-drop text i j k e = ap (λ n. breaks (getD text n 0)) (sym e) ∙ ap breaks (sym (getD-drop i text j 0))
 
 -- where the next word is empty, no byte is left
-none-left : (text : List ℕ) (at first : ℕ) → first ≡ at + gap false (drop at text) → at ≤ length text → run (drop first text) ≡ 0 → first ≡ length text
+none-left : (text : List ℕ) (at first : ℕ) → first ≡ at + gap false (drop at text) → at ≤ length text → wordLength (drop first text) ≡ 0 → first ≡ length text
 none-left text at first f h r = ⊎-elim (λ t. absurd-at (ltb-true _ _ t)) (λ t. end (ltb-false _ _ t)) (two (ltb first (length text)))
   where
     end : length text ≤ first → first ≡ length text
@@ -139,7 +139,7 @@ none-left text at first f h r = ⊎-elim (λ t. absurd-at (ltb-true _ _ t)) (λ 
 
     absurd-at : first < length text → first ≡ length text
     absurd-at l =
-        clash (at-drop text first (run (drop first text)) first (omega arith) ∙ run-ends (drop first text) (omega (arith, length-drop first text)))
+        clash (at-drop text first (wordLength (drop first text)) first (omega arith) ∙ run-ends (drop first text) (omega (arith, length-drop first text)))
         (at-drop text at (gap false (drop at text)) first (sym f) ∙ gap-ends false (drop at text) (omega (arith, length-drop at text)))
 
 pub is-word : (text : List ℕ) (at : ℕ) → IsWord text at (nextWord text at)
@@ -151,7 +151,7 @@ is-word text at =
       order = omega arith;
       inside = λ h. omega (arith, gap-le false (drop at text), length-drop at text, run-le (drop first text), length-drop first text);
       solid = λ k h l. at-drop text first (k - first) k (omega arith) ∙ run-solid (drop first text) (k - first) (omega arith);
-      whole = λ h. at-drop text first (run (drop first text)) (first + run (drop first text)) refl ∙ run-ends (drop first text) (omega (arith, length-drop first text));
+      whole = λ h. at-drop text first (wordLength (drop first text)) (first + wordLength (drop first text)) refl ∙ run-ends (drop first text) (omega (arith, length-drop first text));
       left = λ h e. sym e ∙ none-left text at first refl h (omega arith);
     }
 

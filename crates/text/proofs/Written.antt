@@ -11,7 +11,7 @@ use lib.ListN.{length, getD, take, drop, set, length-drop}
 use lib.Seq.{sets, drop-length, getD-drop, take-all, take-suc, length-take-le, drop-cons, drop-set-lt, getD-set-same, lt-length-set}
 use borrow.Author.Tests.{le-leb, lt-leb, eq-eqb, ne-eqb}
 use Rattle.journal.proofs.Stores.{sets-append, take-rest}
-use Rattle.text.specs.Written.{glyph, lastDigits, zeros, decimal, stored, placeBehind}
+use Rattle.text.specs.inner.Written.{glyph, lastDigits, zeros, decimal, bytesStored, placeBehind}
 
 -- ---- bytes
 
@@ -24,12 +24,12 @@ pub copied-all : (out : List ℕ) (at : ℕ) (w : List ℕ) (k : ℕ) (l : List 
 copied-all out at w k l h e = e ∙ ap (sets out at) (take-all k w h)
 
 module _ (out : List ℕ) (at : ℕ) (w : List ℕ) where
-  pub no-room : length out < at + length w → (18446744073709551615 ≡ placeBehind out at w) × (out ≡ stored out at w)
-  unfolding placeBehind stored
+  pub no-room : length out < at + length w → (18446744073709551615 ≡ placeBehind out at w) × (out ≡ bytesStored out at w)
+  unfolding placeBehind bytesStored
   no-room h = rw (lt-leb (at + length w) (length out) h) (refl, refl)
 
-  pub room : at + length w ≤ length out → (at + length w ≡ placeBehind out at w) × (sets out at w ≡ stored out at w)
-  unfolding placeBehind stored
+  pub room : at + length w ≤ length out → (at + length w ≡ placeBehind out at w) × (sets out at w ≡ bytesStored out at w)
+  unfolding placeBehind bytesStored
   room h = rw (le-leb (at + length w) (length out) h) (refl, refl)
 
 -- ---- digits

@@ -13,8 +13,8 @@ use crate::word::next_word;
 use crate::word::same_bytes;
 ghost use mathlib.Core.Path.{_≡_};
 ghost use Prim.Native.Nat.{suc, min};
-ghost use Rattle.text.specs.Words.{bytesOf};
-ghost use Rattle.text.specs.Cursor.{passed, numberTaken, floatTaken, takeNumber, refused, takeCount, takeHexWord, takeFloat, takeKeyword, takeSlice, takeIf, atEnd};
+ghost use Rattle.text.specs.inner.Words.{bytesOf};
+ghost use Rattle.text.specs.inner.Cursor.{pastWord, numberTaken, floatTaken, takeNumber, markedBad, takeCount, takeHexWord, takeFloat, takeKeyword, takeSlice, takeIf, atEnd};
 
 // Where reading stands: the place behind the words that were read, and how many they are, up to 4,294,967,295. Where the last of them could not be
 // read, nothing more is read.
@@ -81,7 +81,7 @@ fn one_more(n: u32) -> u32
 
 // Past a word, which could be read or not.
 fn pass(c: Cursor, w: Word, bad: bool) -> Cursor
-    ensures { λ r. ⌜ r ≡ passed c w bad ⌝ }
+    ensures { λ r. ⌜ r ≡ pastWord c w bad ⌝ }
 {
     Cursor {
         at: w.end,
@@ -136,7 +136,7 @@ pub fn take_number(text: &[u8], c: Cursor) -> TakenNumber
 
 // The last word that was read counts as unreadable.
 pub fn refuse(c: Cursor) -> Cursor
-    ensures { λ r. ⌜ r ≡ refused c ⌝ }
+    ensures { λ r. ⌜ r ≡ markedBad c ⌝ }
 {
     Cursor {
         at: c.at,

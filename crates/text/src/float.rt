@@ -6,7 +6,7 @@ ghost use mathlib.Core.Path.{_≡_};
 ghost use Prim.Native.Nat.{suc, _^_, _≤_, _<_, min};
 ghost use lib.ListN.{getD};
 ghost use lib.Ieee.{binary64, round};
-ghost use Rattle.text.specs.Floats.{bitsOf, point, decimalOf, signedOf, floatOf};
+ghost use Rattle.text.specs.inner.Floats.{bitsOf, point, decimalOf, signedOf, floatOf};
 
 // A float, or a word that is none.
 pub enum Float64 {

@@ -2,8 +2,8 @@
 use crate::word::next_word;
 use crate::word::same_bytes;
 ghost use mathlib.Core.Path.{_≡_};
-ghost use Rattle.text.specs.Words.{allWords};
-ghost use Rattle.text.specs.Keywords.{keywordOf, sliceOf, placeIn};
+ghost use Rattle.text.specs.inner.Words.{allWords};
+ghost use Rattle.text.specs.inner.Keywords.{keywordOf, sliceOf, placeIn};
 
 pub enum Keyword {
     Network,

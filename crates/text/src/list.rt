@@ -5,8 +5,7 @@ use crate::cursor::take_number;
 ghost use mathlib.Core.Path.{_≡_};
 ghost use Prim.Native.Nat.{_<_};
 ghost use lib.ListN.{take};
-ghost use Rattle.text.specs.Lists.{numberInto, floatInto, elementsOf, element, readElements, relationsOf, relation, readRelations};
-ghost use Rattle.text.specs.Lists.{candidatesOf, candidate, readCandidates, readDistances, segmentsOf, segment, readSegments};
+ghost use Rattle.text.specs.inner.Lists.{numberInto, floatInto, elementsReadOf, element, readElements, relationsReadOf, relation, readRelations, candidatesReadOf, candidate, readCandidates, readDistances, segmentsReadOf, segment, readSegments};
 
 // The first n entries of a slice; all of them where there are fewer.
 pub fn first_numbers<'a>(numbers: &'a [u32], n: usize) -> &'a [u32]
@@ -79,8 +78,8 @@ fn read_element(
 ) -> Cursor
     requires { ⌜ k < 4294967296 ⌝ }
     ensures { λ r.
-        let s = elementsOf c (now (lengths .entry)) (now (headings .entry)) (now (flags .entry)) in
-        ⌜ elementsOf r (now (lengths .exit)) (now (headings .exit)) (now (flags .exit)) ≡ element (now (text .entry)) k s ⌝ }
+        let s = elementsReadOf c (now (lengths .entry)) (now (headings .entry)) (now (flags .entry)) in
+        ⌜ elementsReadOf r (now (lengths .exit)) (now (headings .exit)) (now (flags .exit)) ≡ element (now (text .entry)) k s ⌝ }
 {
     let c1 = float_into(text, c, k, lengths);
     let c2 = float_into(text, c1, 4 * k, headings);
@@ -100,8 +99,8 @@ pub fn read_elements(
     flags: &mut [u32],
 ) -> Cursor
     ensures { λ r.
-        let s = elementsOf c (now (lengths .entry)) (now (headings .entry)) (now (flags .entry)) in
-        ⌜ elementsOf r (now (lengths .exit)) (now (headings .exit)) (now (flags .exit)) ≡ readElements (now (text .entry)) n s ⌝ }
+        let s = elementsReadOf c (now (lengths .entry)) (now (headings .entry)) (now (flags .entry)) in
+        ⌜ elementsReadOf r (now (lengths .exit)) (now (headings .exit)) (now (flags .exit)) ≡ readElements (now (text .entry)) n s ⌝ }
 {
     let mut cursor = c;
     for k in 0..n as usize {
@@ -123,8 +122,8 @@ fn read_relation(
     backward: &mut [u32],
 ) -> Cursor
     ensures { λ r.
-        let s = relationsOf c (now (from .entry)) (now (to .entry)) (now («from_side» .entry)) (now («to_side» .entry)) (now (forward .entry)) (now (backward .entry)) in
-        ⌜ relationsOf r (now (from .exit)) (now (to .exit)) (now («from_side» .exit)) (now («to_side» .exit)) (now (forward .exit)) (now (backward .exit)) ≡ relation (now (text .entry)) k s ⌝ }
+        let s = relationsReadOf c (now (from .entry)) (now (to .entry)) (now («from_side» .entry)) (now («to_side» .entry)) (now (forward .entry)) (now (backward .entry)) in
+        ⌜ relationsReadOf r (now (from .exit)) (now (to .exit)) (now («from_side» .exit)) (now («to_side» .exit)) (now (forward .exit)) (now (backward .exit)) ≡ relation (now (text .entry)) k s ⌝ }
 {
     let c1 = number_into(text, c, k, from);
     let c2 = number_into(text, c1, k, to);
@@ -147,8 +146,8 @@ pub fn read_relations(
     backward: &mut [u32],
 ) -> Cursor
     ensures { λ r.
-        let s = relationsOf c (now (from .entry)) (now (to .entry)) (now («from_side» .entry)) (now («to_side» .entry)) (now (forward .entry)) (now (backward .entry)) in
-        ⌜ relationsOf r (now (from .exit)) (now (to .exit)) (now («from_side» .exit)) (now («to_side» .exit)) (now (forward .exit)) (now (backward .exit)) ≡ readRelations (now (text .entry)) n s ⌝ }
+        let s = relationsReadOf c (now (from .entry)) (now (to .entry)) (now («from_side» .entry)) (now («to_side» .entry)) (now (forward .entry)) (now (backward .entry)) in
+        ⌜ relationsReadOf r (now (from .exit)) (now (to .exit)) (now («from_side» .exit)) (now («to_side» .exit)) (now (forward .exit)) (now (backward .exit)) ≡ readRelations (now (text .entry)) n s ⌝ }
 {
     let mut cursor = c;
     for k in 0..n as usize {
@@ -178,8 +177,8 @@ fn read_candidate(
     raw_logs: &mut [f64],
 ) -> Cursor
     ensures { λ r.
-        let s = candidatesOf c (now (elements .entry)) (now (intrinsics .entry)) (now (near .entry)) (now («raw_logs» .entry)) in
-        ⌜ candidatesOf r (now (elements .exit)) (now (intrinsics .exit)) (now (near .exit)) (now («raw_logs» .exit)) ≡ candidate (now (text .entry)) k s ⌝ }
+        let s = candidatesReadOf c (now (elements .entry)) (now (intrinsics .entry)) (now (near .entry)) (now («raw_logs» .entry)) in
+        ⌜ candidatesReadOf r (now (elements .exit)) (now (intrinsics .exit)) (now (near .exit)) (now («raw_logs» .exit)) ≡ candidate (now (text .entry)) k s ⌝ }
 {
     let c1 = number_into(text, c, k, elements);
     let c2 = float_into(text, c1, k, intrinsics);
@@ -198,8 +197,8 @@ pub fn read_candidates(
     raw_logs: &mut [f64],
 ) -> Cursor
     ensures { λ r.
-        let s = candidatesOf c (now (elements .entry)) (now (intrinsics .entry)) (now (near .entry)) (now («raw_logs» .entry)) in
-        ⌜ candidatesOf r (now (elements .exit)) (now (intrinsics .exit)) (now (near .exit)) (now («raw_logs» .exit)) ≡ readCandidates (now (text .entry)) n s ⌝ }
+        let s = candidatesReadOf c (now (elements .entry)) (now (intrinsics .entry)) (now (near .entry)) (now («raw_logs» .entry)) in
+        ⌜ candidatesReadOf r (now (elements .exit)) (now (intrinsics .exit)) (now (near .exit)) (now («raw_logs» .exit)) ≡ readCandidates (now (text .entry)) n s ⌝ }
 {
     let mut cursor = c;
     for k in 0..n as usize {
@@ -232,8 +231,8 @@ fn read_segment(
     lasts: &mut [u32],
 ) -> Cursor
     ensures { λ r.
-        let s = segmentsOf c (now (elements .entry)) (now (starts .entry)) (now (ends .entry)) (now (firsts .entry)) (now (lasts .entry)) in
-        ⌜ segmentsOf r (now (elements .exit)) (now (starts .exit)) (now (ends .exit)) (now (firsts .exit)) (now (lasts .exit)) ≡ segment (now (text .entry)) k s ⌝ }
+        let s = segmentsReadOf c (now (elements .entry)) (now (starts .entry)) (now (ends .entry)) (now (firsts .entry)) (now (lasts .entry)) in
+        ⌜ segmentsReadOf r (now (elements .exit)) (now (starts .exit)) (now (ends .exit)) (now (firsts .exit)) (now (lasts .exit)) ≡ segment (now (text .entry)) k s ⌝ }
 {
     let c1 = number_into(text, c, k, elements);
     let c2 = float_into(text, c1, k, starts);
@@ -254,8 +253,8 @@ pub fn read_segments(
     lasts: &mut [u32],
 ) -> Cursor
     ensures { λ r.
-        let s = segmentsOf c (now (elements .entry)) (now (starts .entry)) (now (ends .entry)) (now (firsts .entry)) (now (lasts .entry)) in
-        ⌜ segmentsOf r (now (elements .exit)) (now (starts .exit)) (now (ends .exit)) (now (firsts .exit)) (now (lasts .exit)) ≡ readSegments (now (text .entry)) n s ⌝ }
+        let s = segmentsReadOf c (now (elements .entry)) (now (starts .entry)) (now (ends .entry)) (now (firsts .entry)) (now (lasts .entry)) in
+        ⌜ segmentsReadOf r (now (elements .exit)) (now (starts .exit)) (now (ends .exit)) (now (firsts .exit)) (now (lasts .exit)) ≡ readSegments (now (text .entry)) n s ⌝ }
 {
     let mut cursor = c;
     for k in 0..n as usize {

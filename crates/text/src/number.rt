@@ -1,8 +1,7 @@
 // Whole numbers: decimal, or in hexadecimal digits of upper case.
 ghost use mathlib.Core.Path.{_≡_};
 ghost use Prim.Native.Nat.{_≤_, _<_};
-ghost use Rattle.text.specs.Numbers.{whole, fitted, numberOf, hexWordOf};
-ghost use Rattle.text.specs.Numbers.{figure as Numbers·figure};
+ghost use Rattle.text.specs.inner.Numbers.{valueBelow, numberFitted, numberOf, hexWordOf, figure as Numbers·figure};
 
 // A number of 32 bits, or a word that is none.
 pub enum Number {
@@ -32,7 +31,7 @@ fn figure(b: u8) -> u64
 // The number that starts with n and goes on with the digits; the limit where it is not below that, or where a byte is no digit of the base.
 pub fn read_whole(base: u64, limit: u64, n: u64, bytes: &[u8]) -> u64
     requires { ⌜ (1 ≤ base) × (base ≤ 16) × (limit ≤ 1000000000000000) × (n < limit) ⌝ }
-    ensures { λ r. ⌜ r ≡ whole base limit n (now (bytes .entry)) ⌝ }
+    ensures { λ r. ⌜ r ≡ valueBelow base limit n (now (bytes .entry)) ⌝ }
 {
     let mut value = n;
     for k in 0..bytes.len() {
@@ -49,7 +48,7 @@ pub fn read_whole(base: u64, limit: u64, n: u64, bytes: &[u8]) -> u64
 }
 
 fn fit(n: u64) -> Number
-    ensures { λ r. ⌜ r ≡ fitted n ⌝ }
+    ensures { λ r. ⌜ r ≡ numberFitted n ⌝ }
 {
     if n < 4294967296 {
         return Number::Value(n as u32);

@@ -2,7 +2,7 @@
 use crate::cursor::least;
 ghost use mathlib.Core.Path.{_≡_};
 ghost use lib.ListN.{length};
-ghost use Rattle.text.specs.Window.{rest, moved};
+ghost use Rattle.text.specs.inner.Window.{rest, moved};
 
 // Moves what is left from a place on of the bytes that a window holds to its front, and answers how many they are.
 pub fn keep_rest(window: &mut [u8], at: usize, filled: usize) -> usize

@@ -3,9 +3,8 @@ ghost use mathlib.Core.Path.{_≡_};
 ghost use mathlib.Core.Bool.{false, _||_};
 ghost use Prim.Native.Nat.{_+_};
 ghost use lib.ListN.{drop};
-ghost use Rattle.text.specs.Bytes.{same};
-ghost use Rattle.text.specs.Words.{gap, run, nextWord};
-ghost use Rattle.text.specs.Words.{breaks as Words·breaks, commented as Words·commented};
+ghost use Rattle.text.specs.inner.Bytes.{same};
+ghost use Rattle.text.specs.inner.Words.{gap, wordLength, nextWord, breaks as Words·breaks, commented as Words·commented};
 
 // Where a word starts and ends; one without bytes where no word is left.
 pub struct Word {
@@ -88,7 +87,7 @@ fn skip_gap(text: &[u8], at: usize) -> usize
 
 // Past the bytes of a word.
 fn skip_word(text: &[u8], at: usize) -> usize
-    ensures { λ r. ⌜ r ≡ at + run (drop at (now (text .entry))) ⌝ }
+    ensures { λ r. ⌜ r ≡ at + wordLength (drop at (now (text .entry))) ⌝ }
 {
     let mut i = at;
     while i < text.len() {

@@ -4,15 +4,14 @@ use journal::float::bits_of;
 ghost use mathlib.Core.Path.{_≡_};
 ghost use Prim.Native.Nat.{_≤_, _<_};
 ghost use lib.ListN.{length};
-ghost use Rattle.text.specs.Written.{lastDigits, zeros, decimal, hexWord, hexFloat, stored, placeBehind};
-ghost use Rattle.text.specs.Written.{glyph as Written·glyph};
+ghost use Rattle.text.specs.inner.Written.{lastDigits, zeros, decimal, hexWord, hexFloat, bytesStored, placeBehind, glyph as Written·glyph};
 
 const NO_ROOM: usize = 18446744073709551615;
 
 // The bytes of a word.
 pub fn put_bytes(out: &mut [u8], at: usize, word: &[u8]) -> usize
     ensures { λ r. ⌜ r ≡ placeBehind (now (out .entry)) at (now (word .entry)) ⌝ }
-    ensures { λ _. ⌜ now (out .exit) ≡ stored (now (out .entry)) at (now (word .entry)) ⌝ }
+    ensures { λ _. ⌜ now (out .exit) ≡ bytesStored (now (out .entry)) at (now (word .entry)) ⌝ }
 {
     if out.len() < at {
         return NO_ROOM;
@@ -67,7 +66,7 @@ fn count_zeros(digits: &[u8]) -> usize
 // A number in decimal.
 pub fn put_number(out: &mut [u8], at: usize, n: u32) -> usize
     ensures { λ r. ⌜ r ≡ placeBehind (now (out .entry)) at (decimal n) ⌝ }
-    ensures { λ _. ⌜ now (out .exit) ≡ stored (now (out .entry)) at (decimal n) ⌝ }
+    ensures { λ _. ⌜ now (out .exit) ≡ bytesStored (now (out .entry)) at (decimal n) ⌝ }
 {
     let mut digits = [0u8; 10];
     fill_digits(&mut digits, 10, n as u64);
@@ -78,7 +77,7 @@ pub fn put_number(out: &mut [u8], at: usize, n: u32) -> usize
 // A word in eight hexadecimal digits.
 pub fn put_hex_word(out: &mut [u8], at: usize, w: u32) -> usize
     ensures { λ r. ⌜ r ≡ placeBehind (now (out .entry)) at (hexWord w) ⌝ }
-    ensures { λ _. ⌜ now (out .exit) ≡ stored (now (out .entry)) at (hexWord w) ⌝ }
+    ensures { λ _. ⌜ now (out .exit) ≡ bytesStored (now (out .entry)) at (hexWord w) ⌝ }
 {
     let mut digits = [0u8; 8];
     fill_digits(&mut digits, 16, w as u64);
@@ -88,7 +87,7 @@ pub fn put_hex_word(out: &mut [u8], at: usize, w: u32) -> usize
 // A float by its bits, in 16 hexadecimal digits.
 pub fn put_float(out: &mut [u8], at: usize, x: f64) -> usize
     ensures { λ r. ⌜ r ≡ placeBehind (now (out .entry)) at (hexFloat x) ⌝ }
-    ensures { λ _. ⌜ now (out .exit) ≡ stored (now (out .entry)) at (hexFloat x) ⌝ }
+    ensures { λ _. ⌜ now (out .exit) ≡ bytesStored (now (out .entry)) at (hexFloat x) ⌝ }
 {
     let mut digits = [0u8; 16];
     fill_digits(&mut digits, 16, bits_of(x));

@@ -6,7 +6,7 @@ use native.Mathlib.Omega.{arith}
 use native.Mathlib.Nat.{mul-zero}
 use lib.ListN.{length, length-set}
 use Rattle.journal.specs.Record.{floatAt}
-use Rattle.closing.specs.Buffer.{entries}
+use Rattle.closing.specs.inner.Buffer.{entriesStored}
 use Rattle.lists.proofs.Loops.{upTo-none, upTo-turn, upTo-done}
 use Rattle.closing.proofs.Buffers.{next-place, last-place}
 use Rattle.closing.proofs.buffer.copy_floats.Statement.{statement}
@@ -17,7 +17,7 @@ Inv-loop words place apart n buffer₀ at₀ k₀ buffer at k =
     (k ≤ n)
     × (length buffer ≡ length buffer₀)
     × (at ≡ place + apart * k)
-    × (buffer ≡ entries k (λ j. floatAt words (place + apart * j)) buffer₀)
+    × (buffer ≡ entriesStored k (λ j. floatAt words (place + apart * j)) buffer₀)
 
 abbrev μ-loop : tie.MeasureT-loop
 μ-loop words place apart n buffer₀ at₀ k₀ buffer at k = n - k

@@ -3,7 +3,7 @@ use mathlib.Core.Path.{refl, sym, _∙_}
 use Prim.Native.Nat.{min}
 use lib.ListN.{length}
 use borrow.Author.Needs.{needs}
-use Rattle.closing.specs.Close.{answered, stored}
+use Rattle.closing.specs.Close.{closeAnswer, closeStored}
 use Rattle.closing.proofs.Closing.{closed-not, closed-nothing, last-found}
 use Rattle.closing.proofs.close.close.Statement.{statement}
 use Rattle.closing.proofs.close.close.Tie as tie
@@ -27,11 +27,11 @@ close-from-requires : tie.Need-close-from-requires
 close-from-requires c κs = last-found (sym (c .before .before .before .before .before .before .before .before .read-journal .ensures) ∙ c .before .before .before .before .before .before .found .given .1) (c .before .before .before .latest .given .1)
 
 returns : tie.Need-returns
-unfolding answered stored
+unfolding closeAnswer closeStored
 returns c = let e = closed-not _ (min (length (c .before .before .before .before .before .before .args .rows .now)) (length (c .before .before .before .before .before .before .args .candidates .now))) (sym (c .before .before .read-journal .ensures) ∙ c .enum-told .given .1) in rw e (refl, (refl, refl))
 
 returns-2 : tie.Need-returns-2
-unfolding answered stored
+unfolding closeAnswer closeStored
 returns-2 c = let e = closed-nothing _ (min (length (c .before .before .before .before .before .before .before .before .before .args .rows .now)) (length (c .before .before .before .before .before .before .before .before .before .args .candidates .now))) (sym (c .before .before .before .before .before .read-journal .ensures) ∙ c .before .before .before .found .given .1) (c .enum-told2 .given .1) in rw e (refl, (refl, refl))
 
 same-length : tie.Need-same-length

@@ -2,7 +2,7 @@
 use native.Mathlib.Omega.{arith}
 use mathlib.Core.Path.{refl}
 use borrow.Author.Needs.{needs}
-use Rattle.closing.specs.Close.{answered, stored}
+use Rattle.closing.specs.Close.{closeAnswer, closeStored}
 use Rattle.journal.proofs.Stores.{take-rest}
 use Rattle.closing.proofs.Closing.{last-inside, last-stands, begin-reached, closed-full, closed-path}
 use Rattle.closing.proofs.close.close_from.Statement.{statement}
@@ -30,7 +30,7 @@ least-requires : tie.Need-least-requires
 least-requires c κs = search needs
 
 returns : tie.Need-returns
-unfolding answered stored
+unfolding closeAnswer closeStored
 returns c = let e = closed-full _ _ _ _ _ (c .before .before .before .before .before .before .before .before .pre) (rw take-rest at (c .before .before .before .best-previous .ensures)) _ _ (c .before .before .path-length .ensures) (rw (c .before .least .ensures) at (c .if1 .taken)) in rw e (refl, (refl, refl))
 
 write-path-requires : tie.Need-write-path-requires

@@ -4,14 +4,14 @@ use Prim.Native.Nat.{_%_, _≤_}
 use native.Mathlib.Omega.{arith}
 use lib.ListN.{getD}
 use borrow.Author.Needs.{needs}
-use Rattle.closing.specs.Row.{Buffers, buffersOf, candidateRoom, rowAnswer, filled}
+use Rattle.closing.specs.Row.{RowBuffers, rowBuffersOf, candidateRoom, rowAnswer, filled}
 use Rattle.closing.proofs.Rows.{same-room, Rooms, rooms, some-words, fields-stand, floats-stand, distances-stand, row-longer, distances-longer, row-answer, row-filled}
 use Rattle.closing.proofs.row.copy_row.Statement.{statement}
 use Rattle.closing.proofs.row.copy_row.Tie as tie
 
 -- the buffers as they were lent
-abbrev lent : tie.Start → Buffers
-lent c = buffersOf (c .args .elements .now) (c .args .intrinsics .now) (c .args .near .now) (c .args .raw-logs .now) (c .args .parents .now) (c .args .scores .now) (c .args .distances .now)
+abbrev lent : tie.Start → RowBuffers
+lent c = rowBuffersOf (c .args .elements .now) (c .args .intrinsics .now) (c .args .near .now) (c .args .raw-logs .now) (c .args .parents .now) (c .args .scores .now) (c .args .distances .now)
 
 -- there is room for the candidates
 room : (c : tie.Else1) → getD (c .before .before .before .before .before .before .before .before .before .before .before .before .before .before .before .before .before .args .words .now) 0 0 % 32 ≤ candidateRoom (lent (c .before .before .before .before .before .before .before .before .before .before .before .before .before .before .before .before .before))

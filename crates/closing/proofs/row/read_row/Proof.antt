@@ -2,15 +2,15 @@
 use mathlib.Core.Path.{refl, sym, _∙_}
 use native.Mathlib.Omega.{arith}
 use borrow.Author.Needs.{needs}
-use Rattle.closing.specs.Row.{Buffers, buffersOf, rowAnswer, filled}
+use Rattle.closing.specs.Row.{RowBuffers, rowBuffersOf, rowAnswer, filled}
 use Rattle.journal.proofs.Stores.{take-rest}
 use Rattle.closing.proofs.Rows.{row-unread, row-past, row-standing, row-place, row-whole, row-reading}
 use Rattle.closing.proofs.row.read_row.Statement.{statement}
 use Rattle.closing.proofs.row.read_row.Tie as tie
 
 -- the buffers as they were lent
-abbrev lent : tie.Start → Buffers
-lent c = buffersOf (c .args .elements .now) (c .args .intrinsics .now) (c .args .near .now) (c .args .raw-logs .now) (c .args .parents .now) (c .args .scores .now) (c .args .distances .now)
+abbrev lent : tie.Start → RowBuffers
+lent c = rowBuffersOf (c .args .elements .now) (c .args .intrinsics .now) (c .args .near .now) (c .args .raw-logs .now) (c .args .parents .now) (c .args .scores .now) (c .args .distances .now)
 
 read-journal-requires : tie.Need-read-journal-requires
 read-journal-requires c κs = search needs

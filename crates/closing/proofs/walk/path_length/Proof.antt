@@ -3,7 +3,7 @@ use native.Mathlib.Omega.{arith}
 use mathlib.Core.Path.{_≡_, refl, ap, _∙_}
 use Prim.Native.Nat.{_+_}
 use lib.ListN.{length}
-use Rattle.closing.specs.Walk.{Reached, pathFrom}
+use Rattle.closing.specs.inner.Walk.{Reached, pathFrom}
 use Rattle.closing.proofs.Steps.{over-rows, over-reached, over-counts}
 use Rattle.closing.proofs.Storing.{path-stops, path-ends}
 use Rattle.closing.proofs.walk.path_length.Statement.{statement}

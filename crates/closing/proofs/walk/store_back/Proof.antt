@@ -2,7 +2,7 @@
 use native.Mathlib.Omega.{arith}
 use borrow.Author.Tests.{lt-ltb, le-ltb}
 use borrow.Author.Needs.{needs}
-use Rattle.closing.specs.Walk.{entered}
+use Rattle.closing.specs.inner.Walk.{pairStored}
 use Rattle.closing.proofs.Steps.{over-pairs, over-rows, reached-few}
 use Rattle.closing.proofs.walk.store_back.Statement.{statement}
 use Rattle.closing.proofs.walk.store_back.Tie as tie
@@ -35,11 +35,11 @@ same-length-2 : tie.Need-same-length-2
 same-length-2 c = search needs
 
 returns : tie.Need-returns
-unfolding entered
+unfolding pairStored
 returns c = (c .before .before .before .before .before .step-back .ensures, (rw (lt-ltb _ _ (c .before .before .if1 .taken)), rw (lt-ltb _ _ (c .before .before .if1 .taken))))
 
 returns-2 : tie.Need-returns-2
-unfolding entered
+unfolding pairStored
 returns-2 c = (c .before .before .before .step-back .ensures, (rw (le-ltb _ _ (c .if1 .left)), rw (le-ltb _ _ (c .if1 .left))))
 
 pub store-back-spec : {M : Type 1} → statement M

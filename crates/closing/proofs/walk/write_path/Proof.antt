@@ -3,7 +3,8 @@ use native.Mathlib.Omega.{arith}
 use mathlib.Core.Path.{_≡_, refl, _∙_}
 use Prim.Native.Nat.{_+_}
 use lib.ListN.{length}
-use Rattle.closing.specs.Walk.{Reached, pathFrom, column, rowOf, candidateOf}
+use Rattle.closing.specs.inner.Walk.{Reached, pathFrom, column}
+use Rattle.closing.specs.Close.{pairRow, pairCandidate}
 use Rattle.closing.proofs.Steps.{over-rows, over-reached, over-counts}
 use Rattle.closing.proofs.Storing.{path-onward, Column, column-start, column-turn, column-end}
 use Rattle.closing.proofs.walk.write_path.Statement.{statement}
@@ -13,8 +14,8 @@ abbrev Inv-loop : tie.InvT-loop
 Inv-loop journal n rows₀ candidates₀ b₀ rows candidates b =
     Reached journal b
     × (b .pairs + length (pathFrom journal b) ≡ n)
-    × Column journal n rowOf (column rowOf (pathFrom journal b₀) n rows₀) (length rows₀) b rows
-    × Column journal n candidateOf (column candidateOf (pathFrom journal b₀) n candidates₀) (length candidates₀) b candidates
+    × Column journal n pairRow (column pairRow (pathFrom journal b₀) n rows₀) (length rows₀) b rows
+    × Column journal n pairCandidate (column pairCandidate (pathFrom journal b₀) n candidates₀) (length candidates₀) b candidates
 
 abbrev μ-loop : tie.MeasureT-loop
 μ-loop journal n rows₀ candidates₀ b₀ rows candidates b = b .rows

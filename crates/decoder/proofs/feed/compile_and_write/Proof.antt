@@ -5,8 +5,8 @@ use Rattle.network.proofs.Accepted.{accepted-counts, accepted-even}
 use Rattle.transition.specs.Track.{Track}
 use Rattle.transition.specs.Step.{stepOn}
 use Rattle.transition.proofs.Places.{track-same}
-use Rattle.journal.specs.Fix.{fixIn}
-use Rattle.decoder.specs.Plan.{written}
+use Rattle.journal.specs.inner.Fix.{fixIn}
+use Rattle.decoder.specs.inner.Plan.{written}
 use Rattle.decoder.proofs.Writing.{feedable-on}
 use Rattle.decoder.proofs.feed.compile_and_write.Statement.{statement}
 use Rattle.decoder.proofs.feed.compile_and_write.Tie as tie

@@ -1,6 +1,6 @@
 -- `groups::gather::goes_on` meets its contract. Assumes nothing.
 use borrow.Author.Tests.{ne-eqb}
-use Rattle.groups.specs.Gather.{goesOn}
+use Rattle.groups.specs.inner.Gather.{goesOn}
 use Rattle.groups.proofs.gather.goes_on.Statement.{statement}
 use Rattle.groups.proofs.gather.goes_on.Tie as tie
 

@@ -1,14 +1,14 @@
 -- `groups::group::max` meets its contract. Assumes nothing.
-use Rattle.groups.specs.Groups.{greatest}
+use Rattle.groups.specs.Groups.{greater}
 use Rattle.groups.proofs.group.max.Statement.{statement}
 use Rattle.groups.proofs.group.max.Tie as tie
 
 returns : tie.Need-returns
-unfolding greatest
+unfolding greater
 returns c = rw (c .if1 .taken)
 
 returns-2 : tie.Need-returns-2
-unfolding greatest
+unfolding greater
 returns-2 c = rw (c .if1 .left)
 
 pub max-spec : {M : Type 1} → statement M

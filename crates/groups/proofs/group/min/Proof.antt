@@ -1,14 +1,14 @@
 -- `groups::group::min` meets its contract. Assumes nothing.
-use Rattle.groups.specs.Groups.{least}
+use Rattle.groups.specs.Groups.{lesser}
 use Rattle.groups.proofs.group.min.Statement.{statement}
 use Rattle.groups.proofs.group.min.Tie as tie
 
 returns : tie.Need-returns
-unfolding least
+unfolding lesser
 returns c = rw (c .if1 .taken)
 
 returns-2 : tie.Need-returns-2
-unfolding least
+unfolding lesser
 returns-2 c = rw (c .if1 .left)
 
 pub min-spec : {M : Type 1} → statement M

@@ -1,6 +1,6 @@
 -- `groups::group::update_group` meets its contract. Assumes nothing.
 use borrow.Author.Needs.{needs}
-use Rattle.groups.specs.Groups.{join}
+use Rattle.groups.specs.Groups.{withState}
 use Rattle.groups.proofs.group.update_group.Statement.{statement}
 use Rattle.groups.proofs.group.update_group.Tie as tie
 
@@ -11,7 +11,7 @@ max-requires : tie.Need-max-requires
 max-requires c κs = search needs
 
 returns : tie.Need-returns
-unfolding join
+unfolding withState
 returns c = rw (c .before .min .ensures, c .max .ensures)
 
 pub update-group-spec : {M : Type 1} → statement M

@@ -2,13 +2,13 @@
 use native.Mathlib.Omega.{arith}
 use mathlib.Core.Path.{sym, _∙_}
 use borrow.Author.Needs.{needs}
-use Rattle.journal.specs.Call.{Standing}
+use Rattle.journal.specs.inner.Strike.{RowsAtLeast}
 use Rattle.journal.proofs.Ends.{some-words, end-small, struck-not, struck-stand, struck-more, struck-done}
 use Rattle.journal.proofs.call.strike.Statement.{statement}
 use Rattle.journal.proofs.call.strike.Tie as tie
 
 -- n rows stand
-stand : (c : tie.After-end-before) → Standing (c .before .before .before .before .before .before .before .before .before .args .journal .now) (c .before .before .before .before .before .before .before .before .before .args .n)
+stand : (c : tie.After-end-before) → RowsAtLeast (c .before .before .before .before .before .before .before .before .before .args .journal .now) (c .before .before .before .before .before .before .before .before .before .args .n)
 stand c = struck-stand _ _ _ _ _ (sym (c .before .before .before .before .before .before .read-journal .ensures) ∙ c .before .before .before .before .found .given .1) (c .before .before .if1 .left)
 
 read-journal-requires : tie.Need-read-journal-requires

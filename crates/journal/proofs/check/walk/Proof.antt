@@ -6,7 +6,7 @@ use mathlib.Core.Path.{_≡_, sym, ap, _∙_}
 use borrow.Author.Needs.{needs}
 use lib.ListN.{drop, length}
 use Rattle.journal.specs.declared.read.Record.the-variants.{Whole}
-use Rattle.journal.specs.Check.{candidatesOf, recordAt}
+use Rattle.journal.specs.inner.Check.{candidatesOf, recordAt}
 use Rattle.journal.specs.Ranges.{rowLimit}
 use Rattle.journal.proofs.Stores.{take-rest}
 use Rattle.journal.proofs.Walk.{Walked, walked-start, walked-full, walked-bad, walked-room, walked-turn, walked-end}

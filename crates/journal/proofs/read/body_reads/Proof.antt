@@ -3,7 +3,7 @@ use native.Mathlib.Omega.{arith}
 use mathlib.Core.Path.{sym, _∙_}
 use borrow.Author.Tests.{eq-eqb, ne-eqb, not-true, not-false}
 use borrow.Author.Needs.{needs}
-use Rattle.journal.specs.Check.{bodyReads}
+use Rattle.journal.specs.inner.Check.{bodyReads}
 use Rattle.journal.specs.Record.{recordLength}
 use Rattle.journal.proofs.Records.{body-last}
 use Rattle.journal.proofs.read.body_reads.Statement.{statement}

@@ -6,15 +6,15 @@ use mathlib.Core.Path.{_≡_, sym, _∙_}
 use borrow.Author.Tests.{not-true, not-false}
 use lib.ListN.{drop}
 use Rattle.lists.proofs.Loops.{every-none, every-turn, every-done, every-stop}
-use Rattle.lists.specs.Loops.{every}
-use Rattle.journal.specs.Check.{wellRead}
+use Rattle.lists.specs.Loops.{everyBelow}
+use Rattle.journal.specs.inner.Check.{wellRead}
 use Rattle.journal.specs.Record.{floatWords, readDistance}
 use Rattle.journal.specs.Ranges.{distanceOk}
 use Rattle.journal.proofs.read.each_distance_reads.Statement.{statement}
 use Rattle.journal.proofs.read.each_distance_reads.Tie as tie
 
 abbrev Inv-loop : tie.InvT-loop
-Inv-loop words at n k₀ k = (k ≤ n) × (every k (λ j. wellRead floatWords readDistance distanceOk (drop (at + 2 * j) words)) ≡ true)
+Inv-loop words at n k₀ k = (k ≤ n) × (everyBelow k (λ j. wellRead floatWords readDistance distanceOk (drop (at + 2 * j) words)) ≡ true)
 
 abbrev μ-loop : tie.MeasureT-loop
 μ-loop words at n k₀ k = n - k

@@ -5,13 +5,13 @@ use mathlib.Core.Bool.{false}
 use mathlib.Core.Path.{_≡_, sym, _∙_}
 use lib.Ieee.Scale.{finite}
 use Rattle.lists.proofs.Loops.{any-none, any-turn, any-done, any-stop}
-use Rattle.lists.specs.Loops.{any}
+use Rattle.lists.specs.Loops.{anyBelow}
 use Rattle.journal.specs.Record.{floatAt}
 use Rattle.journal.proofs.read.scores_read.Statement.{statement}
 use Rattle.journal.proofs.read.scores_read.Tie as tie
 
 abbrev Inv-loop : tie.InvT-loop
-Inv-loop words c k₀ k = (k ≤ c) × (any k (λ j. finite (floatAt words (6 + 7 * j))) ≡ false)
+Inv-loop words c k₀ k = (k ≤ c) × (anyBelow k (λ j. finite (floatAt words (6 + 7 * j))) ≡ false)
 
 abbrev μ-loop : tie.MeasureT-loop
 μ-loop words c k₀ k = c - k

@@ -1,8 +1,8 @@
 -- `journal::record::add_row` meets its contract. Assumes nothing.
 use native.Mathlib.Omega.{arith}
 use borrow.Author.Needs.{needs}
-use Rattle.journal.specs.Row.{rowOf}
-use Rattle.journal.specs.Fix.{fixIn}
+use Rattle.journal.specs.inner.Row.{rowOf}
+use Rattle.journal.specs.inner.Fix.{fixIn}
 use Rattle.journal.specs.Record.{recordOf}
 use Rattle.journal.proofs.Stores.{row-put}
 use Rattle.journal.proofs.record.add_row.Statement.{statement}

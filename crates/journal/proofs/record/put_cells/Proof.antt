@@ -5,8 +5,8 @@ use mathlib.Core.Path.{_≡_, refl, _∙_}
 use lib.Seq.{sets, take-length}
 use lib.ListN.{length, take}
 use Rattle.journal.specs.Record.{cellWords}
-use Rattle.journal.specs.Row.{cellsOf}
-use Rattle.journal.specs.Fix.{candidatesIn}
+use Rattle.journal.specs.inner.Row.{cellsOf}
+use Rattle.journal.specs.inner.Fix.{candidatesIn}
 use Rattle.journal.specs.Lists.{flat}
 use Rattle.journal.proofs.Gathered.{count-in}
 use Rattle.journal.proofs.Stores.{cells-many, cell-narrow, cells-turn}

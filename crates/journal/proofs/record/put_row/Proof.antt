@@ -4,8 +4,9 @@ use native.Mathlib.Nat.{mul-le-mul}
 use native.Mathlib.Omega.{arith}
 use mathlib.Core.Path.{_≡_, sym, _∙_}
 use lib.ListN.{length, length-set}
-use Rattle.journal.specs.Row.{Row, size, rowOf}
-use Rattle.journal.specs.Fix.{fixIn}
+use Rattle.journal.specs.Row.{Row, rowSize}
+use Rattle.journal.specs.inner.Row.{rowOf}
+use Rattle.journal.specs.inner.Fix.{fixIn}
 use Rattle.journal.specs.Record.{recordLength, recordOf}
 use Rattle.journal.proofs.Gathered.{count-in}
 use Rattle.journal.proofs.Stores.{cells-many, row-stored, row-length}
@@ -15,7 +16,7 @@ use Rattle.journal.proofs.record.put_row.Tie as tie
 abbrev row : tie.Start → Row
 row s = rowOf (fixIn (s .args .fix) (s .args .distances .now)) (s .args .parents .now) (s .args .scores .now) (s .args .p)
 
-many : (s : tie.Start) → size (row s) ≡ s .args .fix .count
+many : (s : tie.Start) → rowSize (row s) ≡ s .args .fix .count
 many s = cells-many _ (s .args .parents .now) (s .args .scores .now) ∙ count-in _ (s .pre .0 .0)
 
 number : (s : tie.Start) → length (s .args .distances .now) ≡ s .args .fix .count * s .args .p

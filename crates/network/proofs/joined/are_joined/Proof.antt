@@ -4,18 +4,18 @@ use mathlib.Core.Bool.{false}
 use Prim.Native.Nat.{_≤_, _-_}
 use native.Mathlib.Omega.{arith}
 use lib.ListN.{length}
-use Rattle.lists.specs.Loops.{any}
+use Rattle.lists.specs.Loops.{anyBelow}
 use Rattle.lists.proofs.Loops.{any-none, any-turn, any-done, any-stop}
 use Rattle.network.specs.Network.{relationsOf}
 use Rattle.network.specs.Graph.{relationAt}
-use Rattle.network.specs.Nodes.{relationLeads}
+use Rattle.network.specs.inner.Nodes.{relationLeads}
 use Rattle.network.proofs.Joining.{joined-relations}
 use Rattle.network.proofs.joined.are_joined.Statement.{statement}
 use Rattle.network.proofs.joined.are_joined.Tie as tie
 
 abbrev Inv-loop : tie.InvT-loop
 Inv-loop elements from to from-side to-side forward backward sources targets k₀ k-end k =
-    (k-end ≡ length from) × (k ≤ k-end) × (any k (λ j. relationLeads elements sources targets (relationAt (relationsOf from to from-side to-side forward backward) j)) ≡ false)
+    (k-end ≡ length from) × (k ≤ k-end) × (anyBelow k (λ j. relationLeads elements sources targets (relationAt (relationsOf from to from-side to-side forward backward) j)) ≡ false)
 
 abbrev μ-loop : tie.MeasureT-loop
 μ-loop elements from to from-side to-side forward backward sources targets k₀ k-end k = k-end - k

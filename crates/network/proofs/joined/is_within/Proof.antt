@@ -1,5 +1,5 @@
 -- `network::joined::is_within` meets its contract. Assumes nothing.
-use Rattle.network.specs.Nodes.{within}
+use Rattle.network.specs.inner.Nodes.{within}
 use borrow.Author.Needs.{needs}
 use Rattle.network.proofs.joined.is_within.Statement.{statement}
 use Rattle.network.proofs.joined.is_within.Tie as tie

@@ -1,5 +1,5 @@
 -- `network::joined::link_leads` meets its contract. Assumes nothing.
-use Rattle.network.specs.Nodes.{linkLeads}
+use Rattle.network.specs.inner.Nodes.{linkLeads}
 use borrow.Author.Needs.{needs}
 use Rattle.network.proofs.joined.link_leads.Statement.{statement}
 use Rattle.network.proofs.joined.link_leads.Tie as tie

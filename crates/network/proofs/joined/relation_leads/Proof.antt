@@ -1,5 +1,5 @@
 -- `network::joined::relation_leads` meets its contract. Assumes nothing.
-use Rattle.network.specs.Nodes.{relationLeads}
+use Rattle.network.specs.inner.Nodes.{relationLeads}
 use borrow.Author.Needs.{needs}
 use Rattle.network.proofs.joined.relation_leads.Statement.{statement}
 use Rattle.network.proofs.joined.relation_leads.Tie as tie

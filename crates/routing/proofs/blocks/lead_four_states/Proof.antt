@@ -1,6 +1,6 @@
 -- `routing::blocks::lead_four_states` meets its contract. Assumes nothing.
 use borrow.Author.Needs.{needs}
-use Rattle.routing.specs.Blocks.{earliestFour}
+use Rattle.routing.specs.inner.Blocks.{earliestFour}
 use Rattle.routing.proofs.blocks.lead_four_states.Statement.{statement}
 use Rattle.routing.proofs.blocks.lead_four_states.Tie as tie
 

@@ -1,5 +1,5 @@
 -- `text::cursor::at_end` meets its contract. Assumes nothing.
-use Rattle.text.specs.Cursor.{atEnd}
+use Rattle.text.specs.inner.Cursor.{atEnd}
 use borrow.Author.Needs.{needs}
 use Rattle.text.proofs.cursor.at_end.Statement.{statement}
 use Rattle.text.proofs.cursor.at_end.Tie as tie

@@ -1,7 +1,7 @@
 -- `text::cursor::take_count` meets its contract. Assumes nothing.
 use borrow.Author.Needs.{needs}
 use borrow.Author.Tests.{le-leb, lt-leb}
-use Rattle.text.specs.Cursor.{takeCount}
+use Rattle.text.specs.inner.Cursor.{takeCount}
 use Rattle.text.proofs.cursor.take_count.Statement.{statement}
 use Rattle.text.proofs.cursor.take_count.Tie as tie
 

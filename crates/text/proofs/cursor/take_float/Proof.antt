@@ -1,9 +1,8 @@
 -- `text::cursor::take_float` meets its contract. Assumes nothing.
-use Rattle.text.specs.Floats.{floatOf}
-use Rattle.text.specs.Cursor.{floatTaken}
+use Rattle.text.specs.inner.Floats.{floatOf}
+use Rattle.text.specs.inner.Cursor.{floatTaken, takeFloat}
 use Rattle.text.proofs.Reading.{in-turn}
 use lib.Ieee.{ofBits}
-use Rattle.text.specs.Cursor.{takeFloat}
 use borrow.Author.Needs.{needs}
 use Rattle.text.proofs.cursor.take_float.Statement.{statement}
 use Rattle.text.proofs.cursor.take_float.Tie as tie

@@ -1,8 +1,7 @@
 -- `text::cursor::take_hex_word` meets its contract. Assumes nothing.
-use Rattle.text.specs.Numbers.{hexWordOf}
-use Rattle.text.specs.Cursor.{numberTaken}
+use Rattle.text.specs.inner.Numbers.{hexWordOf}
+use Rattle.text.specs.inner.Cursor.{numberTaken, takeHexWord}
 use Rattle.text.proofs.Reading.{in-turn}
-use Rattle.text.specs.Cursor.{takeHexWord}
 use borrow.Author.Needs.{needs}
 use Rattle.text.proofs.cursor.take_hex_word.Statement.{statement}
 use Rattle.text.proofs.cursor.take_hex_word.Tie as tie

@@ -1,6 +1,6 @@
 -- `text::cursor::take_if` meets its contract. Assumes nothing.
 use mathlib.Core.Path.{sym, _∙_}
-use Rattle.text.specs.Cursor.{takeIf}
+use Rattle.text.specs.inner.Cursor.{takeIf}
 use borrow.Author.Needs.{needs}
 use Rattle.text.proofs.cursor.take_if.Statement.{statement}
 use Rattle.text.proofs.cursor.take_if.Tie as tie

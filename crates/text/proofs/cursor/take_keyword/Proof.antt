@@ -1,5 +1,5 @@
 -- `text::cursor::take_keyword` meets its contract. Assumes nothing.
-use Rattle.text.specs.Cursor.{takeKeyword}
+use Rattle.text.specs.inner.Cursor.{takeKeyword}
 use borrow.Author.Needs.{needs}
 use Rattle.text.proofs.cursor.take_keyword.Statement.{statement}
 use Rattle.text.proofs.cursor.take_keyword.Tie as tie

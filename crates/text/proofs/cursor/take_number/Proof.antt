@@ -1,8 +1,7 @@
 -- `text::cursor::take_number` meets its contract. Assumes nothing.
-use Rattle.text.specs.Numbers.{numberOf}
-use Rattle.text.specs.Cursor.{numberTaken}
+use Rattle.text.specs.inner.Numbers.{numberOf}
+use Rattle.text.specs.inner.Cursor.{numberTaken, takeNumber}
 use Rattle.text.proofs.Reading.{in-turn}
-use Rattle.text.specs.Cursor.{takeNumber}
 use borrow.Author.Needs.{needs}
 use Rattle.text.proofs.cursor.take_number.Statement.{statement}
 use Rattle.text.proofs.cursor.take_number.Tie as tie

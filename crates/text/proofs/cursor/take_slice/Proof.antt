@@ -1,5 +1,5 @@
 -- `text::cursor::take_slice` meets its contract. Assumes nothing.
-use Rattle.text.specs.Cursor.{takeSlice}
+use Rattle.text.specs.inner.Cursor.{takeSlice}
 use borrow.Author.Needs.{needs}
 use Rattle.text.proofs.cursor.take_slice.Statement.{statement}
 use Rattle.text.proofs.cursor.take_slice.Tie as tie

@@ -5,7 +5,7 @@ use native.Mathlib.Omega.{arith}
 use Prim.Native.Nat.{_+_, _-_, _≤_}
 use mathlib.Core.Path.{_≡_, sym, _∙_}
 use lib.ListN.{length, drop}
-use Rattle.text.specs.Floats.{point}
+use Rattle.text.specs.inner.Floats.{point}
 use Rattle.text.proofs.Floats.{point-past, point-stop, point-turn}
 use Rattle.text.proofs.float.point_at.Statement.{statement}
 use Rattle.text.proofs.float.point_at.Tie as tie

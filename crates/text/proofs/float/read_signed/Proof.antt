@@ -3,7 +3,7 @@ use Rattle.journal.proofs.Stores.{take-rest}
 use borrow.Author.Needs.{needs}
 use mathlib.Core.Path.{sym, ap, _∙_}
 use borrow.Author.Tests.{eq-eqb, ne-eqb}
-use Rattle.text.specs.Floats.{signedOf}
+use Rattle.text.specs.inner.Floats.{signedOf}
 use Rattle.text.specs.declared.float.Float64.the-variants.{Value}
 use Rattle.text.proofs.Floats.{first-some}
 use Rattle.text.proofs.float.read_signed.Statement.{statement}

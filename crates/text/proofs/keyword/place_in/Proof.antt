@@ -5,8 +5,8 @@ use Prim.Native.Nat.{_+_, _-_, _≤_}
 use native.Mathlib.Nat.{zero-add, sub-zero}
 use mathlib.Core.Path.{_≡_, sym, _∙_}
 use lib.ListN.{length}
-use Rattle.text.specs.Words.{allWords, wordsFrom}
-use Rattle.text.specs.Keywords.{placeIn}
+use Rattle.text.specs.inner.Words.{allWords, wordsFrom}
+use Rattle.text.specs.inner.Keywords.{placeIn}
 use Rattle.text.proofs.Words.{IsWord, is-word}
 use Rattle.text.proofs.Keywords.{place-end, place-past, place-found, place-turn}
 use Rattle.text.proofs.keyword.place_in.Statement.{statement}

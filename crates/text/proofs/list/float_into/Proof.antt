@@ -1,6 +1,6 @@
 -- `text::list::float_into` meets its contract. Assumes nothing.
 use borrow.Author.Needs.{needs}
-use Rattle.text.specs.Lists.{floatInto}
+use Rattle.text.specs.inner.Lists.{floatInto}
 use Rattle.text.proofs.Lists.{entered-not, entered-in, entered-out}
 use Rattle.text.proofs.list.float_into.Statement.{statement}
 use Rattle.text.proofs.list.float_into.Tie as tie

@@ -1,6 +1,6 @@
 -- `text::list::number_into` meets its contract. Assumes nothing.
 use borrow.Author.Needs.{needs}
-use Rattle.text.specs.Lists.{numberInto}
+use Rattle.text.specs.inner.Lists.{numberInto}
 use Rattle.text.proofs.Lists.{entered-not, entered-in, entered-out}
 use Rattle.text.proofs.list.number_into.Statement.{statement}
 use Rattle.text.proofs.list.number_into.Tie as tie

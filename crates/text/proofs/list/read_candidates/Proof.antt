@@ -6,7 +6,7 @@ use mathlib.Core.Path.{_≡_, refl, _∙_}
 use lib.ListN.{length}
 use Rattle.lists.specs.Loops.{upTo}
 use Rattle.lists.proofs.Loops.{upTo-none, upTo-turn, upTo-done}
-use Rattle.text.specs.Lists.{candidatesOf, candidate, readCandidates}
+use Rattle.text.specs.inner.Lists.{candidatesReadOf, candidate, readCandidates}
 use Rattle.text.proofs.list.read_candidates.Statement.{statement}
 use Rattle.text.proofs.list.read_candidates.Tie as tie
 
@@ -16,7 +16,7 @@ Inv-loop text n elements₀ intrinsics₀ near₀ raw-logs₀ cursor₀ k₀ k-e
     × (length intrinsics ≡ length intrinsics₀)
     × (length near ≡ length near₀)
     × (length raw-logs ≡ length raw-logs₀)
-    × (candidatesOf cursor elements intrinsics near raw-logs ≡ upTo k (candidate text) (candidatesOf cursor₀ elements₀ intrinsics₀ near₀ raw-logs₀))
+    × (candidatesReadOf cursor elements intrinsics near raw-logs ≡ upTo k (candidate text) (candidatesReadOf cursor₀ elements₀ intrinsics₀ near₀ raw-logs₀))
 
 abbrev μ-loop : tie.MeasureT-loop
 μ-loop text n elements₀ intrinsics₀ near₀ raw-logs₀ cursor₀ k₀ k-end elements intrinsics near raw-logs cursor k = n - k

@@ -8,7 +8,7 @@ use lib.ListN.{length}
 use lib.Ieee.{Float}
 use Rattle.lists.specs.Loops.{upTo}
 use Rattle.lists.proofs.Loops.{upTo-none, upTo-turn, upTo-done}
-use Rattle.text.specs.Lists.{floatInto, readDistances}
+use Rattle.text.specs.inner.Lists.{floatInto, readDistances}
 use Rattle.text.specs.declared.cursor.Cursor.{Cursor}
 use Rattle.text.proofs.Lists.{paired}
 use Rattle.text.proofs.list.read_distances.Statement.{statement}

@@ -6,7 +6,7 @@ use mathlib.Core.Path.{_≡_, refl, _∙_}
 use lib.ListN.{length}
 use Rattle.lists.specs.Loops.{upTo}
 use Rattle.lists.proofs.Loops.{upTo-none, upTo-turn, upTo-done}
-use Rattle.text.specs.Lists.{elementsOf, element, readElements}
+use Rattle.text.specs.inner.Lists.{elementsReadOf, element, readElements}
 use Rattle.text.proofs.list.read_elements.Statement.{statement}
 use Rattle.text.proofs.list.read_elements.Tie as tie
 
@@ -15,7 +15,7 @@ Inv-loop text n lengths₀ headings₀ flags₀ cursor₀ k₀ k-end lengths hea
     × (length lengths ≡ length lengths₀)
     × (length headings ≡ length headings₀)
     × (length flags ≡ length flags₀)
-    × (elementsOf cursor lengths headings flags ≡ upTo k (element text) (elementsOf cursor₀ lengths₀ headings₀ flags₀))
+    × (elementsReadOf cursor lengths headings flags ≡ upTo k (element text) (elementsReadOf cursor₀ lengths₀ headings₀ flags₀))
 
 abbrev μ-loop : tie.MeasureT-loop
 μ-loop text n lengths₀ headings₀ flags₀ cursor₀ k₀ k-end lengths headings flags cursor k = n - k

@@ -6,7 +6,7 @@ use mathlib.Core.Path.{_≡_, refl, _∙_}
 use lib.ListN.{length}
 use Rattle.lists.specs.Loops.{upTo}
 use Rattle.lists.proofs.Loops.{upTo-none, upTo-turn, upTo-done}
-use Rattle.text.specs.Lists.{relationsOf, relation, readRelations}
+use Rattle.text.specs.inner.Lists.{relationsReadOf, relation, readRelations}
 use Rattle.text.proofs.list.read_relations.Statement.{statement}
 use Rattle.text.proofs.list.read_relations.Tie as tie
 
@@ -18,7 +18,7 @@ Inv-loop text n from₀ to₀ from-side₀ to-side₀ forward₀ backward₀ cur
     × (length to-side ≡ length to-side₀)
     × (length forward ≡ length forward₀)
     × (length backward ≡ length backward₀)
-    × (relationsOf cursor from to from-side to-side forward backward ≡ upTo k (relation text) (relationsOf cursor₀ from₀ to₀ from-side₀ to-side₀ forward₀ backward₀))
+    × (relationsReadOf cursor from to from-side to-side forward backward ≡ upTo k (relation text) (relationsReadOf cursor₀ from₀ to₀ from-side₀ to-side₀ forward₀ backward₀))
 
 abbrev μ-loop : tie.MeasureT-loop
 μ-loop text n from₀ to₀ from-side₀ to-side₀ forward₀ backward₀ cursor₀ k₀ k-end from to from-side to-side forward backward cursor k = n - k

@@ -6,7 +6,7 @@ use mathlib.Core.Path.{_≡_, refl, _∙_}
 use lib.ListN.{length}
 use Rattle.lists.specs.Loops.{upTo}
 use Rattle.lists.proofs.Loops.{upTo-none, upTo-turn, upTo-done}
-use Rattle.text.specs.Lists.{segmentsOf, segment, readSegments}
+use Rattle.text.specs.inner.Lists.{segmentsReadOf, segment, readSegments}
 use Rattle.text.proofs.list.read_segments.Statement.{statement}
 use Rattle.text.proofs.list.read_segments.Tie as tie
 
@@ -17,7 +17,7 @@ Inv-loop text n elements₀ starts₀ ends₀ firsts₀ lasts₀ cursor₀ k₀ 
     × (length ends ≡ length ends₀)
     × (length firsts ≡ length firsts₀)
     × (length lasts ≡ length lasts₀)
-    × (segmentsOf cursor elements starts ends firsts lasts ≡ upTo k (segment text) (segmentsOf cursor₀ elements₀ starts₀ ends₀ firsts₀ lasts₀))
+    × (segmentsReadOf cursor elements starts ends firsts lasts ≡ upTo k (segment text) (segmentsReadOf cursor₀ elements₀ starts₀ ends₀ firsts₀ lasts₀))
 
 abbrev μ-loop : tie.MeasureT-loop
 μ-loop text n elements₀ starts₀ ends₀ firsts₀ lasts₀ cursor₀ k₀ k-end elements starts ends firsts lasts cursor k = n - k

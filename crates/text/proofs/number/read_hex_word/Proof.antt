@@ -1,7 +1,6 @@
 -- `text::number::read_hex_word` meets its contract. Assumes nothing.
 use mathlib.Core.Path.{_∙_, ap}
-use Rattle.text.specs.Numbers.{fitted}
-use Rattle.text.specs.Numbers.{hexWordOf}
+use Rattle.text.specs.inner.Numbers.{numberFitted, hexWordOf}
 use borrow.Author.Tests.{eq-eqb, ne-eqb}
 use borrow.Author.Needs.{needs}
 use Rattle.text.proofs.number.read_hex_word.Statement.{statement}
@@ -15,7 +14,7 @@ fit-requires c κs = search needs
 
 returns : tie.Need-returns
 unfolding hexWordOf
-returns c = rw (eq-eqb _ _ (c .before .before .if1 .taken)) (c .fit .ensures ∙ ap fitted (c .before .read-whole .ensures))
+returns c = rw (eq-eqb _ _ (c .before .before .if1 .taken)) (c .fit .ensures ∙ ap numberFitted (c .before .read-whole .ensures))
 
 returns-2 : tie.Need-returns-2
 unfolding hexWordOf

@@ -4,19 +4,19 @@ use native.Mathlib.Omega.{arith}
 use Prim.Native.Nat.{_+_, _-_, _*_, _≤_, _<_}
 use mathlib.Core.Path.{_≡_, refl, sym, _∙_}
 use lib.ListN.{length, drop}
-use Rattle.text.specs.Numbers.{whole}
+use Rattle.text.specs.inner.Numbers.{valueBelow}
 use Rattle.text.proofs.Numbers.{next-value, whole-past, whole-over, whole-other, whole-turn}
 use Rattle.text.proofs.number.read_whole.Statement.{statement}
 use Rattle.text.proofs.number.read_whole.Tie as tie
 
 abbrev Inv-loop : tie.InvT-loop
-Inv-loop base limit n bytes value₀ k₀ k-end value k = (k ≤ length bytes) × (value < limit) × (whole base limit n bytes ≡ whole base limit value (drop k bytes))
+Inv-loop base limit n bytes value₀ k₀ k-end value k = (k ≤ length bytes) × (value < limit) × (valueBelow base limit n bytes ≡ valueBelow base limit value (drop k bytes))
 
 abbrev μ-loop : tie.MeasureT-loop
 μ-loop base limit n bytes value₀ k₀ k-end value k = length bytes - k
 
 -- a digit is passed
-next-whole : (c : tie.Else1 Inv-loop μ-loop) → whole (c .before .before .before .before .before .before .args .base) (c .before .before .before .before .before .before .args .limit) (c .before .before .before .before .before .before .args .n) (c .before .before .before .before .before .before .args .bytes .now) ≡ whole (c .before .before .before .before .before .before .args .base) (c .before .before .before .before .before .before .args .limit) (c .before .before .before .before .loop .value * c .before .before .before .before .before .before .args .base + c .before .figure .result) (drop (c .before .before .before .before .loop .k + 1) (c .before .before .before .before .before .before .args .bytes .now))
+next-whole : (c : tie.Else1 Inv-loop μ-loop) → valueBelow (c .before .before .before .before .before .before .args .base) (c .before .before .before .before .before .before .args .limit) (c .before .before .before .before .before .before .args .n) (c .before .before .before .before .before .before .args .bytes .now) ≡ valueBelow (c .before .before .before .before .before .before .args .base) (c .before .before .before .before .before .before .args .limit) (c .before .before .before .before .loop .value * c .before .before .before .before .before .before .args .base + c .before .figure .result) (drop (c .before .before .before .before .loop .k + 1) (c .before .before .before .before .before .before .args .bytes .now))
 next-whole c = c .before .before .before .before .loop .inv .2 ∙ whole-turn _ _ _ _ _ (c .before .before .before .loop-test .taken) (rw (c .before .figure .ensures) at (c .if1 .left)) ∙ rw (c .before .figure .ensures)
 
 loop-holds : tie.Need-loop-holds Inv-loop μ-loop

@@ -5,7 +5,7 @@ use Prim.Native.Nat.{_+_, _-_, _≤_}
 use mathlib.Core.Path.{_≡_, refl}
 use mathlib.Core.List.{_++_}
 use lib.ListN.{length, take, drop, length-set}
-use Rattle.text.specs.Window.{rest}
+use Rattle.text.specs.inner.Window.{rest}
 use Rattle.text.proofs.Windows.{rest-none, rest-turn, rest-moved}
 use Rattle.text.proofs.window.keep_rest.Statement.{statement}
 use Rattle.text.proofs.window.keep_rest.Tie as tie

@@ -1,6 +1,6 @@
 -- `text::word::breaks` meets its contract. Assumes nothing.
 use borrow.Author.Tests.{eq-eqb, ne-eqb}
-use Rattle.text.specs.Words.{breaks}
+use Rattle.text.specs.inner.Words.{breaks}
 use Rattle.text.proofs.Words.{breaks-last}
 use Rattle.text.proofs.word.breaks.Statement.{statement}
 use Rattle.text.proofs.word.breaks.Tie as tie

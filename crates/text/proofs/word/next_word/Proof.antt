@@ -1,5 +1,5 @@
 -- `text::word::next_word` meets its contract. Assumes nothing.
-use Rattle.text.specs.Words.{nextWord}
+use Rattle.text.specs.inner.Words.{nextWord}
 use borrow.Author.Needs.{needs}
 use Rattle.text.proofs.word.next_word.Statement.{statement}
 use Rattle.text.proofs.word.next_word.Tie as tie

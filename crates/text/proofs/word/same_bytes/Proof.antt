@@ -4,7 +4,7 @@ use native.Mathlib.Omega.{arith}
 use Prim.Native.Nat.{_-_, _≤_}
 use mathlib.Core.Path.{_≡_, refl, sym, _∙_}
 use lib.ListN.{length, drop}
-use Rattle.text.specs.Bytes.{same}
+use Rattle.text.specs.inner.Bytes.{same}
 use Rattle.text.proofs.Bytes.{same-long, same-past, same-stop, same-turn}
 use Rattle.text.proofs.word.same_bytes.Statement.{statement}
 use Rattle.text.proofs.word.same_bytes.Tie as tie

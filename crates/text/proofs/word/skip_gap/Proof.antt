@@ -5,7 +5,7 @@ use Prim.Native.Nat.{_+_, _-_}
 use mathlib.Core.Path.{_≡_, refl, sym, _∙_}
 use mathlib.Core.Bool.{false}
 use lib.ListN.{length, drop}
-use Rattle.text.specs.Words.{gap}
+use Rattle.text.specs.inner.Words.{gap}
 use Rattle.text.proofs.Words.{gap-past, gap-stop, gap-turn}
 use Prim.Native.Nat.{_+_, _-_}
 use Rattle.text.proofs.word.skip_gap.Statement.{statement}

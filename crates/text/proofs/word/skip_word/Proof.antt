@@ -3,14 +3,14 @@ use borrow.Author.Needs.{needs}
 use Prim.Native.Nat.{_+_, _-_}
 use mathlib.Core.Path.{_≡_, refl, sym, _∙_}
 use lib.ListN.{length, drop}
-use Rattle.text.specs.Words.{run}
+use Rattle.text.specs.inner.Words.{wordLength}
 use Rattle.text.proofs.Words.{run-past, run-stop, run-turn}
 use Prim.Native.Nat.{_+_, _-_}
 use Rattle.text.proofs.word.skip_word.Statement.{statement}
 use Rattle.text.proofs.word.skip_word.Tie as tie
 
 abbrev Inv-loop : tie.InvT-loop
-Inv-loop text at i₀ i = at + run (drop at text) ≡ i + run (drop i text)
+Inv-loop text at i₀ i = at + wordLength (drop at text) ≡ i + wordLength (drop i text)
 
 abbrev μ-loop : tie.MeasureT-loop
 μ-loop text at i₀ i = length text - i

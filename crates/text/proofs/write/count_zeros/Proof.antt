@@ -5,7 +5,7 @@ use Prim.Native.Nat.{_+_, _-_, _≤_}
 use native.Mathlib.Nat.{zero-add}
 use mathlib.Core.Path.{_≡_, sym, _∙_}
 use lib.ListN.{length, drop}
-use Rattle.text.specs.Written.{zeros}
+use Rattle.text.specs.inner.Written.{zeros}
 use Rattle.text.proofs.Written.{zeros-past, zeros-stop, zeros-turn}
 use Rattle.text.proofs.write.count_zeros.Statement.{statement}
 use Rattle.text.proofs.write.count_zeros.Tie as tie

@@ -4,7 +4,7 @@ use native.Mathlib.Omega.{arith}
 use Prim.Native.Nat.{_-_, _/_, _^_, _≤_}
 use mathlib.Core.Path.{_≡_, refl}
 use lib.ListN.{length, drop, length-set}
-use Rattle.text.specs.Written.{lastDigits}
+use Rattle.text.specs.inner.Written.{lastDigits}
 use Rattle.text.proofs.Written.{digits-none, digits-turn, digits-done, digit-small}
 use Rattle.text.proofs.write.fill_digits.Statement.{statement}
 use Rattle.text.proofs.write.fill_digits.Tie as tie

@@ -1,7 +1,7 @@
 -- `text::write::glyph` meets its contract. Assumes nothing.
 use borrow.Author.Needs.{needs}
 use borrow.Author.Tests.{lt-ltb, le-ltb}
-use Rattle.text.specs.Written.{glyph}
+use Rattle.text.specs.inner.Written.{glyph}
 use Rattle.text.proofs.write.glyph.Statement.{statement}
 use Rattle.text.proofs.write.glyph.Tie as tie
 

@@ -1,6 +1,6 @@
 -- `text::write::put_float` meets its contract. Assumes nothing.
 use mathlib.Core.Path.{_∙_, ap}
-use Rattle.text.specs.Written.{lastDigits}
+use Rattle.text.specs.inner.Written.{lastDigits}
 use borrow.Author.Needs.{needs}
 use Rattle.text.proofs.write.put_float.Statement.{statement}
 use Rattle.text.proofs.write.put_float.Tie as tie

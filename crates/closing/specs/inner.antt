@@ -1,0 +1,3 @@
+-- What the contracts of private functions and the laws of `closing` cite beside the believed definitions.
+pub mod Buffer
+pub mod Walk

@@ -1,0 +1,5 @@
+-- What the contracts of private functions and the laws of `journal` cite beside the believed definitions.
+pub mod Check
+pub mod Fix
+pub mod Row
+pub mod Strike

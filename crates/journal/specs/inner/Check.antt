@@ -1,0 +1,61 @@
+-- What the code of check 7 finds, by the definitions of reading.
+use Prim.Native.Nat.{ℕ, suc, _+_, _-_, _*_}
+use mathlib.Core.Bool.{Bool, true, false, _&&_}
+use mathlib.Core.List.{List, [], _∷_}
+use mathlib.Core.Option.{Option, none, some}
+use lib.Dec.{eqb}
+use lib.ListN.{length, getD, drop}
+use Rattle.lists.specs.Loops.{everyBelow}
+use Rattle.journal.specs.Lists.{starts}
+use Rattle.journal.specs.Row.{Row, rowSize, scores}
+use Rattle.journal.specs.Ranges.{distanceOk, cellOk}
+use Rattle.journal.specs.Record.{distancesWord, lengthWord, cellWords, floatWords, recordLength, recordOf, readCell, readDistance, readRow}
+use Rattle.journal.specs.Journal.{words, rowOk, used, readJournal}
+use Rattle.journal.specs.declared.read.Record.{Record}
+use Rattle.journal.specs.declared.read.Record.the-variants.{Bad, Whole}
+use Rattle.journal.specs.declared.check.Predecessor.{Predecessor}
+use Rattle.journal.specs.declared.check.Predecessor.the-variants.{Nothing, At}
+use Rattle.journal.specs.declared.check.Survey.{Survey}
+use Rattle.journal.specs.declared.check.Survey.the-variants.{NotWellFormed, WellFormed}
+
+unfoldable pub whether : {A : Type 0} → Bool → A → A → A
+whether true a b = a
+whether false a b = b
+
+-- ---- one record
+
+-- the words begin with those of what is read from them, which passes the test
+unfoldable pub wellRead : {A : Type 0} → (A → List ℕ) → (List ℕ → A) → (A → Bool) → List ℕ → Bool
+wellRead part read test ws = starts (part (read ws)) ws && test (read ws)
+
+-- word by word, past a head word of c candidates with p predecessor candidates: cells, number of distances, distances, record length
+unfoldable pub bodyReads : ℕ → ℕ → ℕ → List ℕ → Bool
+bodyReads c p n ws =
+    everyBelow c (λ k. wellRead cellWords readCell (cellOk p n) (drop (1 + 7 * k) ws))
+    && (eqb (getD ws (1 + 7 * c) 0) (distancesWord (c * p))
+    && (everyBelow (c * p) (λ k. wellRead floatWords readDistance distanceOk (drop (1 + 7 * c + 1 + 2 * k) ws))
+    && eqb (getD ws (recordLength c p - 1) 0) (lengthWord (recordLength c p))))
+
+-- what the row reader finds: the record of row number n on a predecessor of q candidates
+unfoldable pub recordAt : ℕ → ℕ → List ℕ → Record
+recordAt q n ws = whether (wellRead recordOf readRow (rowOk q n) ws) (Whole (length (recordOf (readRow ws))) (rowSize (readRow ws)) (scores (readRow ws))) Bad
+
+-- ---- the journal
+
+-- the latest of these rows that scores
+unfoldable pub latestOf : List Row → Predecessor
+latestOf [] = Nothing
+latestOf (r ∷ rs) = whether (scores r) (At (suc (length (words rs))) (length rs) (rowSize r)) (latestOf rs)
+
+-- how many candidates it has
+abbrev pub candidatesOf : Predecessor → ℕ
+candidatesOf Nothing = 0
+candidatesOf (At place row candidates) = candidates
+
+abbrev pub surveyOf : ℕ → Option (List Row) → Survey
+surveyOf n none = NotWellFormed
+surveyOf n (some rs) = WellFormed (length rs) n (latestOf rs)
+
+-- check 7: what `readJournal` reads, by its number of rows, the used words and the predecessor of a further row
+unfoldable pub survey : List ℕ → Survey
+survey s = surveyOf (used s) (readJournal s)
