@@ -133,6 +133,10 @@ pub struct Fed {
     pub answer: Answer,
 }
 
+fn fed_to(cursor: Cursor, answer: Answer) -> Fed {
+    Fed { cursor, answer }
+}
+
 // A fix, from behind the word `feed`, is read and fed.
 pub fn read_feed(
     text: &[u8],
@@ -160,10 +164,7 @@ pub fn read_feed(
     );
     let end = read_distances(text, between, number.value, &mut distances);
     if end.bad {
-        return Fed {
-            cursor: end,
-            answer: Answer::Done,
-        };
+        return fed_to(end, Answer::Done);
     }
     let answer = feed_fix(
         h,
@@ -180,10 +181,7 @@ pub fn read_feed(
         &distances,
     );
     release(cuts, LENGTHS, DISTANCES + 1);
-    Fed {
-        cursor: end,
-        answer,
-    }
+    fed_to(end, answer)
 }
 
 pub fn answer_feed(

@@ -41,7 +41,7 @@ fn moved(h: Host, at: usize) -> Host {
     with_cursor(h, c)
 }
 
-// Where no line begins. A word that is missing or unknown is an error unless the input has ended.
+// Where no line begins: that is an error unless no word is left and the input has ended.
 fn at_last(text: &[u8], ended: bool, h: Host, behind: Cursor) -> Host {
     if ended && at_end(text, h.cursor) {
         return h;

@@ -13,7 +13,7 @@ use answers::print::Output;
 use answers::print::flush;
 use answers::print::print_error;
 
-// A stretch of the input: twice what a line takes.
+// A stretch of the input: twice what a line may take.
 const TEXT_BYTES: usize = 2097152;
 
 pub type Text = [u8; TEXT_BYTES];

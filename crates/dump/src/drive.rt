@@ -24,7 +24,7 @@ use journal::call::open;
 use text::cursor::refuse;
 use text::keyword::Keyword;
 
-// A stretch of the input: twice what a line takes.
+// A stretch of the input: twice what a line may take.
 const TEXT_BYTES: usize = 1048576;
 
 pub type Text = [u8; TEXT_BYTES];
@@ -34,7 +34,7 @@ pub fn new_text() -> Text {
 }
 
 // A fix is fed. Only its refusal is told.
-fn feed_fix(
+fn feed_line(
     text: &[u8],
     h: Host,
     floats: &[f64],
@@ -52,7 +52,7 @@ fn feed_fix(
     }
 }
 
-// What a line says. Every other line of the case language counts as unreadable.
+// A line is performed. Of the case language's other lines the first word counts as unreadable.
 fn perform(
     line: Line,
     text: &[u8],
@@ -68,7 +68,7 @@ fn perform(
     match keyword {
         Keyword::Network => read_network(words, h, floats, numbers),
         Keyword::Settings => read_settings(words, h),
-        Keyword::Feed => feed_fix(words, h, floats, numbers, journal, cuts, out),
+        Keyword::Feed => feed_line(words, h, floats, numbers, journal, cuts, out),
         _ => with_cursor(h, refuse(h.cursor)),
     }
 }
