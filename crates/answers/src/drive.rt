@@ -33,6 +33,7 @@ use decoder::feed::feed;
 use journal::call::Answer;
 use journal::call::open;
 use journal::call::strike;
+use text::cursor::Cursor;
 use text::cursor::take_count;
 use text::cursor::take_number;
 use text::list::first_floats;
@@ -126,15 +127,25 @@ fn feed_fix(
     )
 }
 
-pub fn answer_feed(
+// Where reading stands behind a fix, and what feeding it answered: done where it was not fed, since a word of it could not be read.
+pub struct Fed {
+    pub cursor: Cursor,
+    pub answer: Answer,
+}
+
+fn fed_to(cursor: Cursor, answer: Answer) -> Fed {
+    Fed { cursor, answer }
+}
+
+// A fix, from behind the word `feed`, is read and fed.
+pub fn read_feed(
     text: &[u8],
     h: Host,
     floats: &[f64],
     numbers: &[u32],
     journal: &mut [u32],
     cuts: &mut Cuts,
-    out: &mut Output,
-) -> Host {
+) -> Fed {
     let count = take_count(text, h.cursor, 20);
     let number = take_count(text, count.cursor, 400);
     let mut elements = [0u32; CANDIDATES];
@@ -152,9 +163,8 @@ pub fn answer_feed(
         &mut raw_logs,
     );
     let end = read_distances(text, between, number.value, &mut distances);
-    let r = with_cursor(h, end);
     if end.bad {
-        return r;
+        return fed_to(end, Answer::Done);
     }
     let answer = feed_fix(
         h,
@@ -171,6 +181,25 @@ pub fn answer_feed(
         &distances,
     );
     release(cuts, LENGTHS, DISTANCES + 1);
+    fed_to(end, answer)
+}
+
+pub fn answer_feed(
+    text: &[u8],
+    h: Host,
+    floats: &[f64],
+    numbers: &[u32],
+    journal: &mut [u32],
+    cuts: &mut Cuts,
+    out: &mut Output,
+) -> Host {
+    let fed = read_feed(text, h, floats, numbers, journal, cuts);
+    let end = fed.cursor;
+    let r = with_cursor(h, end);
+    if end.bad {
+        return r;
+    }
+    let answer = fed.answer;
     print_done(out, r, b"feed", answer)
 }
 
@@ -198,9 +227,13 @@ fn print_words(out: &mut Output, start: usize, words: &[u32]) -> usize {
     at
 }
 
-pub fn answer_words(h: Host, journal: &[u32], out: &mut Output) -> Host {
+// The used words, one a line.
+pub fn list_words(h: Host, journal: &[u32], out: &mut Output) -> Host {
     let n = used_words(journal);
-    let start = print_header(out, h.out, b"words", n);
-    let at = print_words(out, start, first_numbers(journal, n));
-    with_out(h, at)
+    with_out(h, print_words(out, h.out, first_numbers(journal, n)))
+}
+
+pub fn answer_words(h: Host, journal: &[u32], out: &mut Output) -> Host {
+    let start = print_header(out, h.out, b"words", used_words(journal));
+    list_words(with_out(h, start), journal, out)
 }

@@ -1,5 +1,6 @@
 // The output: bytes in a buffer that is written out when it is nearly full.
 use libc::STDOUT_FILENO;
+use text::cursor::Cursor;
 use text::list::first_bytes;
 use text::write::put_bytes;
 use text::write::put_float;
@@ -82,4 +83,14 @@ pub fn print_refusal(out: &mut Output, at: usize, name: &[u8], k: u32) -> usize 
     let told = print_bytes(out, named, b" refused");
     let numbered = print_number(out, told, k);
     end_line(out, numbered)
+}
+
+// The number of the word that could not be read, where there is one.
+pub fn print_error(out: &mut Output, at: usize, c: Cursor) -> usize {
+    if c.bad {
+        let named = print_bytes(out, at, b"error");
+        let told = print_number(out, named, c.words);
+        return end_line(out, told);
+    }
+    at
 }

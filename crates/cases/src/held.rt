@@ -14,13 +14,21 @@ use text::list::first_floats;
 use text::list::first_numbers;
 
 // The list held takes so many numbers, elements then first and last rows, and intrinsics, starts then ends.
-pub const HELD_NUMBERS: usize = 12288;
+const HELD_NUMBERS: usize = 12288;
 
-pub const HELD_INTRINSICS: usize = 8192;
+const HELD_INTRINSICS: usize = 8192;
 
 pub type HeldNumbers = [u32; HELD_NUMBERS];
 
 pub type HeldIntrinsics = [f64; HELD_INTRINSICS];
+
+pub fn new_held_numbers() -> HeldNumbers {
+    [0u32; HELD_NUMBERS]
+}
+
+pub fn new_held_intrinsics() -> HeldIntrinsics {
+    [0.0; HELD_INTRINSICS]
+}
 
 fn segment_at(
     k: usize,

@@ -1,4 +1,4 @@
-// A line of the case language: its first word, and which function answers it.
+// A line of the case language: which function answers it.
 use crate::building::answer_segments;
 use crate::collapsing::answer_collapse;
 use crate::held::HeldIntrinsics;
@@ -13,8 +13,9 @@ use answers::held_network::NetworkNumbers;
 use answers::held_network::read_network;
 use answers::host::Cuts;
 use answers::host::Host;
-use answers::host::with_cursor;
 use answers::host::with_out;
+use answers::line::Line;
+use answers::line::words_of;
 use answers::listing::answer_steps;
 use answers::parts::lend_numbers;
 use answers::path::answer_close;
@@ -27,38 +28,8 @@ use answers::row::answer_row;
 use answers::setup::poke;
 use answers::setup::read_settings;
 use answers::setup::read_short;
-use text::cursor::at_end;
-use text::cursor::refuse;
-use text::cursor::take_keyword;
 use text::keyword::Keyword;
 use text::list::first_numbers;
-
-// A line's first word, and the host behind it. Unknown ends the program.
-pub struct Line {
-    pub keyword: Keyword,
-    pub host: Host,
-}
-
-// The first word of the next line. One that is missing is an error unless the input has ended.
-pub fn next_line(text: &[u8], ended: bool, h: Host) -> Line {
-    let t = take_keyword(text, h.cursor);
-    let keyword = t.value;
-    match keyword {
-        Keyword::Unknown => {
-            if ended && at_end(text, h.cursor) {
-                return Line { keyword, host: h };
-            }
-            Line {
-                keyword,
-                host: with_cursor(h, refuse(t.cursor)),
-            }
-        }
-        _ => Line {
-            keyword,
-            host: with_cursor(h, t.cursor),
-        },
-    }
-}
 
 fn answer_kept(h: Host, out: &mut Output) -> Host {
     if h.kept {
@@ -98,9 +69,8 @@ fn ask(
 }
 
 pub fn answer(
-    keyword: Keyword,
+    line: Line,
     text: &[u8],
-    h: Host,
     floats: &mut NetworkFloats,
     numbers: &mut NetworkNumbers,
     journal: &mut [u32],
@@ -109,9 +79,12 @@ pub fn answer(
     held_intrinsics: &mut HeldIntrinsics,
     out: &mut Output,
 ) -> Host {
+    let h = line.host;
+    let words = words_of(line, text);
+    let keyword = line.keyword;
     match keyword {
-        Keyword::Network => read_network(text, h, floats, numbers),
-        Keyword::Journal => answer_journal(text, h, journal, out),
+        Keyword::Network => read_network(words, h, floats, numbers),
+        Keyword::Journal => answer_journal(words, h, journal, out),
         Keyword::Segments => answer_segments(
             h,
             floats,
@@ -122,10 +95,10 @@ pub fn answer(
             held_intrinsics,
             out,
         ),
-        Keyword::Collapse => answer_collapse(text, h, cuts, held_numbers, held_intrinsics, out),
+        Keyword::Collapse => answer_collapse(words, h, cuts, held_numbers, held_intrinsics, out),
         _ => ask(
             keyword,
-            text,
+            words,
             h,
             floats,
             numbers,

@@ -2,19 +2,19 @@
 mod building;
 mod collapsing;
 mod held;
-mod input;
 mod line;
-mod memory;
 mod turn;
 
+use answers::memory;
+
 fn main() {
-    let mut text = memory::new_text();
+    let mut text = turn::new_text();
     let mut floats = memory::new_floats();
     let mut numbers = memory::new_numbers();
     let mut journal = memory::new_journal();
     let mut cuts = memory::new_cuts();
-    let mut held_numbers = memory::new_held_numbers();
-    let mut held_intrinsics = memory::new_held_intrinsics();
+    let mut held_numbers = held::new_held_numbers();
+    let mut held_intrinsics = held::new_held_intrinsics();
     let mut out = memory::new_output();
     turn::run(
         &mut text,

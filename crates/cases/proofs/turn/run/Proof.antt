@@ -5,22 +5,22 @@ use Rattle.cases.proofs.turn.run.Statement.{statement}
 use Rattle.cases.proofs.turn.run.Tie as tie
 
 abbrev Inv-loop : tie.InvT-loop
-Inv-loop text₀ floats₀ numbers₀ journal₀ cuts₀ held-numbers₀ held-intrinsics₀ out₀ state₀ counter₀ text floats numbers journal cuts held-numbers held-intrinsics out state counter = Unit {0}
+Inv-loop text₀ floats₀ numbers₀ journal₀ cuts₀ held-numbers₀ held-intrinsics₀ out₀ line₀ counter₀ text floats numbers journal cuts held-numbers held-intrinsics out line counter = Unit {0}
 
 abbrev μ-loop : tie.MeasureT-loop
-μ-loop text₀ floats₀ numbers₀ journal₀ cuts₀ held-numbers₀ held-intrinsics₀ out₀ state₀ counter₀ text floats numbers journal cuts held-numbers held-intrinsics out state counter = 18446744073709551615 - counter
+μ-loop text₀ floats₀ numbers₀ journal₀ cuts₀ held-numbers₀ held-intrinsics₀ out₀ line₀ counter₀ text floats numbers journal cuts held-numbers held-intrinsics out line counter = 18446744073709551615 - counter
 
-at-start-requires : tie.Need-at-start-requires Inv-loop μ-loop
-at-start-requires c κs = tt
+no-line-requires : tie.Need-no-line-requires Inv-loop μ-loop
+no-line-requires c κs = tt
 
 loop-holds : tie.Need-loop-holds Inv-loop μ-loop
 loop-holds c = tt
 
-supplied-requires : tie.Need-supplied-requires Inv-loop μ-loop
-supplied-requires c κs = tt
+next-line-requires : tie.Need-next-line-requires Inv-loop μ-loop
+next-line-requires c κs = tt
 
-turn-requires : tie.Need-turn-requires Inv-loop μ-loop
-turn-requires c κs = tt
+answer-requires : tie.Need-answer-requires Inv-loop μ-loop
+answer-requires c κs = tt
 
 add-counter : tie.Need-add-counter Inv-loop μ-loop
 add-counter c = omega (arith, c .before .before .before .before .before .before .before .before .before .before .before .before .before .loop-test .taken)
@@ -46,10 +46,10 @@ run-spec =
     (tie.spec
     Inv-loop
     μ-loop
-    at-start-requires
+    no-line-requires
     loop-holds
-    supplied-requires
-    turn-requires
+    next-line-requires
+    answer-requires
     add-counter
     loop-less
     loop-again

@@ -1,84 +1,50 @@
--- `dump::drive::run` meets its contract. Assumes nothing.
-use borrow.Author.Needs.{needs}
+-- `dump::drive::run` meets its contract: what is left of the turns falls. Assumes nothing.
+use Prim.Native.Nat.{_-_}
 use native.Mathlib.Omega.{arith}
-use mathlib.Core.Path.{_≡_, refl, _∙_}
-use lib.ListN.{length}
 use Rattle.dump.proofs.drive.run.Statement.{statement}
 use Rattle.dump.proofs.drive.run.Tie as tie
 
 abbrev Inv-loop : tie.InvT-loop
-Inv-loop window₀ journal₀ lengths₀ headings₀ flags₀ from₀ to₀ from-side₀ to-side₀ forward₀ backward₀ state₀ turns₀ window journal lengths headings flags from to from-side to-side forward backward state turns =
-    (length window ≡ length window₀)
-    × (length journal ≡ length journal₀)
-    × (length lengths ≡ length lengths₀)
-    × (length headings ≡ length headings₀)
-    × (length flags ≡ length flags₀)
-    × (length from ≡ length from₀)
-    × (length to ≡ length to₀)
-    × (length from-side ≡ length from-side₀)
-    × (length to-side ≡ length to-side₀)
-    × (length forward ≡ length forward₀)
-    × (length backward ≡ length backward₀)
+Inv-loop text₀ floats₀ numbers₀ journal₀ cuts₀ out₀ line₀ counter₀ text floats numbers journal cuts out line counter = Unit {0}
 
 abbrev μ-loop : tie.MeasureT-loop
-μ-loop window₀ journal₀ lengths₀ headings₀ flags₀ from₀ to₀ from-side₀ to-side₀ forward₀ backward₀ state₀ turns₀ window journal lengths headings flags from to from-side to-side forward backward state turns = turns
+μ-loop text₀ floats₀ numbers₀ journal₀ cuts₀ out₀ line₀ counter₀ text floats numbers journal cuts out line counter = 18446744073709551615 - counter
 
-at-start-requires : tie.Need-at-start-requires Inv-loop μ-loop
-at-start-requires c κs = search needs
+open-requires : tie.Need-open-requires Inv-loop μ-loop
+open-requires c κs = tt
 
-refill-requires : tie.Need-refill-requires Inv-loop μ-loop
-refill-requires c κs = search needs
+no-line-requires : tie.Need-no-line-requires Inv-loop μ-loop
+no-line-requires c κs = tt
 
 loop-holds : tie.Need-loop-holds Inv-loop μ-loop
-loop-holds c = (refl, refl, refl, refl, refl, refl, refl, refl, refl, refl, refl)
+loop-holds c = tt
 
-turn-requires : tie.Need-turn-requires Inv-loop μ-loop
-turn-requires c κs = search needs
+next-line-requires : tie.Need-next-line-requires Inv-loop μ-loop
+next-line-requires c κs = tt
 
-sub-turns : tie.Need-sub-turns Inv-loop μ-loop
-sub-turns c = omega (arith, c .before .before .before .before .before .before .before .before .before .before .before .before .before .before .before .before .before .before .before .before .before .before .before .before .before .before .before .before .before .before .before .before .before .before .before .loop-test .taken)
+perform-requires : tie.Need-perform-requires Inv-loop μ-loop
+perform-requires c κs = tt
+
+add-counter : tie.Need-add-counter Inv-loop μ-loop
+add-counter c = omega (arith, c .before .before .before .before .before .before .before .before .before .before .before .loop-test .taken)
 
 loop-less : tie.Need-loop-less Inv-loop μ-loop
-loop-less c = omega (arith, c .before .before .before .before .before .before .before .before .before .before .before .before .before .before .before .before .before .before .before .before .before .before .before .before .before .before .before .before .before .before .before .before .before .before .before .loop-test .taken)
+loop-less c = omega (arith, c .before .before .before .before .before .before .before .before .before .before .before .loop-test .taken)
 
 loop-again : tie.Need-loop-again Inv-loop μ-loop
-loop-again c = (c .before .before .before .before .before .before .before .before .before .before .before .before .before .before .before .before .before .before .before .before .before .before .turn .kept .1 .0 ∙ c .before .before .before .before .before .before .before .before .before .before .before .before .before .before .before .before .before .before .before .before .before .before .before .before .before .before .before .before .before .before .before .before .before .before .before .before .loop .inv .0, c .before .before .before .before .before .before .before .before .before .before .before .before .before .before .before .before .before .before .before .before .before .before .turn .kept .1 .1 .0 ∙ c .before .before .before .before .before .before .before .before .before .before .before .before .before .before .before .before .before .before .before .before .before .before .before .before .before .before .before .before .before .before .before .before .before .before .before .before .loop .inv .1, c .before .before .before .before .before .before .before .before .before .before .before .before .before .before .before .before .before .before .before .before .before .before .turn .kept .1 .1 .1 .0 ∙ c .before .before .before .before .before .before .before .before .before .before .before .before .before .before .before .before .before .before .before .before .before .before .before .before .before .before .before .before .before .before .before .before .before .before .before .before .loop .inv .2, c .before .before .before .before .before .before .before .before .before .before .before .before .before .before .before .before .before .before .before .before .before .before .turn .kept .1 .1 .1 .1 .0 ∙ c .before .before .before .before .before .before .before .before .before .before .before .before .before .before .before .before .before .before .before .before .before .before .before .before .before .before .before .before .before .before .before .before .before .before .before .before .loop .inv .3, c .before .before .before .before .before .before .before .before .before .before .before .before .before .before .before .before .before .before .before .before .before .before .turn .kept .1 .1 .1 .1 .1 .0 ∙ c .before .before .before .before .before .before .before .before .before .before .before .before .before .before .before .before .before .before .before .before .before .before .before .before .before .before .before .before .before .before .before .before .before .before .before .before .loop .inv .4, c .before .before .before .before .before .before .before .before .before .before .before .before .before .before .before .before .before .before .before .before .before .before .turn .kept .1 .1 .1 .1 .1 .1 .0 ∙ c .before .before .before .before .before .before .before .before .before .before .before .before .before .before .before .before .before .before .before .before .before .before .before .before .before .before .before .before .before .before .before .before .before .before .before .before .loop .inv .5, c .before .before .before .before .before .before .before .before .before .before .before .before .before .before .before .before .before .before .before .before .before .before .turn .kept .1 .1 .1 .1 .1 .1 .1 .0 ∙ c .before .before .before .before .before .before .before .before .before .before .before .before .before .before .before .before .before .before .before .before .before .before .before .before .before .before .before .before .before .before .before .before .before .before .before .before .loop .inv .6, c .before .before .before .before .before .before .before .before .before .before .before .before .before .before .before .before .before .before .before .before .before .before .turn .kept .1 .1 .1 .1 .1 .1 .1 .1 .0 ∙ c .before .before .before .before .before .before .before .before .before .before .before .before .before .before .before .before .before .before .before .before .before .before .before .before .before .before .before .before .before .before .before .before .before .before .before .before .loop .inv .7, c .before .before .before .before .before .before .before .before .before .before .before .before .before .before .before .before .before .before .before .before .before .before .turn .kept .1 .1 .1 .1 .1 .1 .1 .1 .1 .0 ∙ c .before .before .before .before .before .before .before .before .before .before .before .before .before .before .before .before .before .before .before .before .before .before .before .before .before .before .before .before .before .before .before .before .before .before .before .before .loop .inv .8, c .before .before .before .before .before .before .before .before .before .before .before .before .before .before .before .before .before .before .before .before .before .before .turn .kept .1 .1 .1 .1 .1 .1 .1 .1 .1 .1 .0 ∙ c .before .before .before .before .before .before .before .before .before .before .before .before .before .before .before .before .before .before .before .before .before .before .before .before .before .before .before .before .before .before .before .before .before .before .before .before .loop .inv .9, c .before .before .before .before .before .before .before .before .before .before .before .before .before .before .before .before .before .before .before .before .before .before .turn .kept .1 .1 .1 .1 .1 .1 .1 .1 .1 .1 .1 .0 ∙ c .before .before .before .before .before .before .before .before .before .before .before .before .before .before .before .before .before .before .before .before .before .before .before .before .before .before .before .before .before .before .before .before .before .before .before .before .loop .inv .10)
+loop-again c = tt
 
-same-length : tie.Need-same-length Inv-loop μ-loop
-same-length c = c .before .before .before .loop .inv .0 ∙ c .before .before .before .before .before .before .refill .kept .0
+list-words-requires : tie.Need-list-words-requires Inv-loop μ-loop
+list-words-requires c κs = tt
 
-same-length-2 : tie.Need-same-length-2 Inv-loop μ-loop
-same-length-2 c = c .before .before .before .loop .inv .1
+print-error-requires : tie.Need-print-error-requires Inv-loop μ-loop
+print-error-requires c κs = tt
 
-same-length-3 : tie.Need-same-length-3 Inv-loop μ-loop
-same-length-3 c = c .before .before .before .loop .inv .2
-
-same-length-4 : tie.Need-same-length-4 Inv-loop μ-loop
-same-length-4 c = c .before .before .before .loop .inv .3
-
-same-length-5 : tie.Need-same-length-5 Inv-loop μ-loop
-same-length-5 c = c .before .before .before .loop .inv .4
-
-same-length-6 : tie.Need-same-length-6 Inv-loop μ-loop
-same-length-6 c = c .before .before .before .loop .inv .5
-
-same-length-7 : tie.Need-same-length-7 Inv-loop μ-loop
-same-length-7 c = c .before .before .before .loop .inv .6
-
-same-length-8 : tie.Need-same-length-8 Inv-loop μ-loop
-same-length-8 c = c .before .before .before .loop .inv .7
-
-same-length-9 : tie.Need-same-length-9 Inv-loop μ-loop
-same-length-9 c = c .before .before .before .loop .inv .8
-
-same-length-10 : tie.Need-same-length-10 Inv-loop μ-loop
-same-length-10 c = c .before .before .before .loop .inv .9
-
-same-length-11 : tie.Need-same-length-11 Inv-loop μ-loop
-same-length-11 c = c .before .before .before .loop .inv .10
+flush-requires : tie.Need-flush-requires Inv-loop μ-loop
+flush-requires c κs = tt
 
 returns : tie.Need-returns Inv-loop μ-loop
-returns c = search needs
+returns c = tt
 
 pub run-spec : {M : Type 1} → statement M
 run-spec =
@@ -86,22 +52,15 @@ run-spec =
     (tie.spec
     Inv-loop
     μ-loop
-    at-start-requires
-    refill-requires
+    open-requires
+    no-line-requires
     loop-holds
-    turn-requires
-    sub-turns
+    next-line-requires
+    perform-requires
+    add-counter
     loop-less
     loop-again
-    same-length
-    same-length-2
-    same-length-3
-    same-length-4
-    same-length-5
-    same-length-6
-    same-length-7
-    same-length-8
-    same-length-9
-    same-length-10
-    same-length-11
+    list-words-requires
+    print-error-requires
+    flush-requires
     returns)

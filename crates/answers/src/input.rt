@@ -1,10 +1,7 @@
-// Reading standard input: a stretch of it at a time, so that it may be of any length.
-// A line, with the comments before and in it, may take up to ROOM bytes; a word past them counts as missing.
+// Reading standard input: a stretch of it at a time, the text, so that it may be of any length.
+// A line, with the comments before and in it, may take up to half of the text; a word past that counts as missing.
 use libc::STDIN_FILENO;
 use text::window::keep_rest;
-
-// How many bytes at least are there before a line is read, unless the input ends before.
-const ROOM: usize = 1048576;
 
 // The place of the next byte to be read, how many bytes of the text are filled, how many of them are whole words, and whether the input has ended.
 pub struct Input {
@@ -48,13 +45,13 @@ fn whole_words(text: &[u8]) -> usize {
     n
 }
 
-// Whether a line's room is left from a place on.
-fn is_enough(input: Input, at: usize) -> bool {
+// Whether so much room as a line may take is left from a place on, or all that there is.
+fn is_enough(input: Input, at: usize, room: usize) -> bool {
     if input.ended {
         return true;
     }
     if at <= input.filled {
-        return ROOM <= input.filled - at;
+        return room <= input.filled - at;
     }
     false
 }
@@ -65,9 +62,9 @@ fn stays(input: Input, at: usize) -> Input {
     r
 }
 
-// The text is read up to a place. Where less than a line's room is left of it, what is left moves to the front and more is read behind it.
+// The text is read up to a place. Where less than half of it is left, that moves to the front and more is read behind it.
 pub fn refill(text: &mut [u8], input: Input, at: usize) -> Input {
-    if is_enough(input, at) {
+    if is_enough(input, at, text.len() / 2) {
         return stays(input, at);
     }
     let left = keep_rest(text, at, input.filled);

@@ -1,9 +1,9 @@
--- `cases::input::whole_words` meets its contract. Assumes nothing.
+-- `answers::input::whole_words` meets its contract. Assumes nothing.
 use Prim.Native.Nat.{_≤_}
 use lib.ListN.{length}
 use native.Mathlib.Omega.{arith}
-use Rattle.cases.proofs.input.whole_words.Statement.{statement}
-use Rattle.cases.proofs.input.whole_words.Tie as tie
+use Rattle.answers.proofs.input.whole_words.Statement.{statement}
+use Rattle.answers.proofs.input.whole_words.Tie as tie
 
 abbrev Inv-loop : tie.InvT-loop
 Inv-loop text n₀ n = n ≤ length text
