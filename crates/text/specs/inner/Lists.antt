@@ -32,13 +32,13 @@ elementsReadOf c lengths headings flags = record { cursor = c; lengths = lengths
 
 unfoldable pub element : List ℕ → ℕ → ElementsRead → ElementsRead
 element text k s =
-    let length = floatInto text k (s .cursor) (s .lengths) in
-    let out0 = floatInto text (4 * k) (length .0) (s .headings) in
+    let full = floatInto text k (s .cursor) (s .lengths) in
+    let out0 = floatInto text (4 * k) (full .0) (s .headings) in
     let out1 = floatInto text (4 * k + 1) (out0 .0) (out0 .1) in
     let in0 = floatInto text (4 * k + 2) (out1 .0) (out1 .1) in
     let in1 = floatInto text (4 * k + 3) (in0 .0) (in0 .1) in
     let flag = numberInto text k (in1 .0) (s .flags) in
-    elementsReadOf (flag .0) (length .1) (in1 .1) (flag .1)
+    elementsReadOf (flag .0) (full .1) (in1 .1) (flag .1)
 
 unfoldable pub readElements : List ℕ → ℕ → ElementsRead → ElementsRead
 readElements text n s = upTo n (element text) s

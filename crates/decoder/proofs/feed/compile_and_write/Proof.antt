@@ -1,7 +1,7 @@
 -- `decoder::feed::compile_and_write` meets its contract. Assumes nothing.
 use mathlib.Core.Path.{ap, _∙_}
 use borrow.Author.Needs.{needs}
-use Rattle.network.proofs.Accepted.{accepted-counts, accepted-even}
+use Rattle.network.proofs.Accepted.{accepted-counts, accepted-relations}
 use Rattle.transition.specs.Track.{Track}
 use Rattle.transition.specs.Step.{stepOn}
 use Rattle.transition.proofs.Places.{track-same}
@@ -20,7 +20,7 @@ no-links-requires c κs = search needs
 compile-network-requires : tie.Need-compile-network-requires
 compile-network-requires c κs =
     let accepted = c .before .before .before .before .before .before .before .before .before .before .before .before .before .before .before .pre .0 in
-    (accepted-even _ accepted, (accepted-counts _ accepted .elements, (c .before .before .before .no-heads .ensures, c .before .before .no-links .ensures)))
+    (accepted-relations _ accepted, (accepted-counts _ accepted .elements, (c .before .before .before .no-heads .ensures, c .before .before .no-links .ensures)))
 
 write-fix-requires : tie.Need-write-fix-requires
 write-fix-requires c κs =

@@ -2,7 +2,7 @@
 use mathlib.Core.Path.{refl, ap}
 use borrow.Author.Needs.{needs}
 use Rattle.network.specs.Network.{networkOf}
-use Rattle.network.proofs.Accepted.{accepted-counts, accepted-even}
+use Rattle.network.proofs.Accepted.{accepted-counts, accepted-relations}
 use Rattle.transition.specs.Track.{Track}
 use Rattle.transition.specs.Step.{stepOn, transition}
 use Rattle.transition.proofs.Places.{track-same, accepted-track}
@@ -21,7 +21,7 @@ no-links-requires c κs = search needs
 compile-network-requires : tie.Need-compile-network-requires
 compile-network-requires c κs =
     let accepted = c .before .before .before .before .before .before .before .before .before .before .before .before .before .before .before .pre .0 in
-    (accepted-even _ accepted, (accepted-counts _ accepted .elements, (c .before .before .before .no-heads .ensures, c .before .before .no-links .ensures)))
+    (accepted-relations _ accepted, (accepted-counts _ accepted .elements, (c .before .before .before .no-heads .ensures, c .before .before .no-links .ensures)))
 
 candidate-count-requires : tie.Need-candidate-count-requires
 candidate-count-requires c κs = search needs
