@@ -15,9 +15,12 @@ isMinusInfinity nan = false
 isMinusInfinity (inf s) = s
 isMinusInfinity (fin s m e) = false
 
--- +0.0 and -0.0
+-- +0.0 and +1.0
 abbrev pub pzero : Float
 pzero = fin false 0 (pos 0)
+
+abbrev pub pone : Float
+pone = fin false 1 (pos 0)
 
 -- the whole number n with the sign s, rounded to the format
 abbrev pub ofWhole : Format → Bool → ℕ → Float

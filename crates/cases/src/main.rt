@@ -3,12 +3,12 @@ mod building;
 mod collapsing;
 mod held;
 mod line;
-mod turn;
+mod lines;
 
 use answers::memory;
 
 fn main() {
-    let mut text = turn::new_text();
+    let mut text = lines::new_text();
     let mut floats = memory::new_floats();
     let mut numbers = memory::new_numbers();
     let mut journal = memory::new_journal();
@@ -16,7 +16,7 @@ fn main() {
     let mut held_numbers = held::new_held_numbers();
     let mut held_intrinsics = held::new_held_intrinsics();
     let mut out = memory::new_output();
-    turn::run(
+    lines::run(
         &mut text,
         &mut floats,
         &mut numbers,

@@ -11,7 +11,7 @@ use Rattle.journal.specs.Row.{Row, rowSize, scores, predecessor}
 use Rattle.journal.specs.Record.{usedWord, recordOf, readRow}
 use Rattle.journal.specs.Journal.{words, readJournal}
 use Rattle.journal.specs.WellFormed.{Obey}
-use Rattle.journal.specs.inner.Check.{whether, latestOf}
+use Rattle.journal.specs.inner.Check.{latestOf}
 use Rattle.journal.specs.declared.check.Predecessor.the-variants.{Nothing, At}
 use Rattle.journal.proofs.Reading.{words-drop, read-row}
 use Rattle.journal.proofs.Ends.{formed, obey-drop, words-cons, journal-split}
@@ -57,22 +57,22 @@ pub record Latest (rs : List Row) (place row candidates : ℕ) : Type 0 where
   pub many : candidates ≡ rowSize latest
 
 pub latest-some : (rs : List Row) (place row candidates : ℕ) → latestOf rs ≡ At place row candidates → Latest rs place row candidates
-unfolding latestOf predecessor whether
+unfolding latestOf predecessor
 latest-some [] place row candidates e = let z : _≡_ {A = ℕ} 0 1 = cc in absurd (omega arith)
 latest-some (r ∷ rs) place row candidates e = go (scores r) refl (latest-some rs place row candidates) e
   where
     go : (b : Bool) → scores r ≡ b → (latestOf rs ≡ At place row candidates → Latest rs place row candidates)
-        → whether b (At (suc (length (words rs))) (length rs) (rowSize r)) (latestOf rs) ≡ At place row candidates → Latest (r ∷ rs) place row candidates
+        → cond b (At (suc (length (words rs))) (length rs) (rowSize r)) (latestOf rs) ≡ At place row candidates → Latest (r ∷ rs) place row candidates
     go true q ih k = record { after = 0; latest = r; earlier = rs; stands = refl; is = rw q; placed = cc; numbered = cc; many = cc }
     go false q ih k =
         let l = ih k in
         record { after = suc (l .after); latest = l .latest; earlier = l .earlier; stands = l .stands; is = rw q (l .is); placed = l .placed; numbered = l .numbered; many = l .many }
 
 pub latest-none : (rs : List Row) → latestOf rs ≡ Nothing → predecessor rs ≡ none
-unfolding latestOf predecessor whether
+unfolding latestOf predecessor
 latest-none [] e = refl
 latest-none (r ∷ rs) e = go (scores r) (latest-none rs) e
   where
-    go : (b : Bool) → (latestOf rs ≡ Nothing → predecessor rs ≡ none) → whether b (At (suc (length (words rs))) (length rs) (rowSize r)) (latestOf rs) ≡ Nothing → cond b (some r) (predecessor rs) ≡ none
+    go : (b : Bool) → (latestOf rs ≡ Nothing → predecessor rs ≡ none) → cond b (At (suc (length (words rs))) (length rs) (rowSize r)) (latestOf rs) ≡ Nothing → cond b (some r) (predecessor rs) ≡ none
     go true ih k = let z : _≡_ {A = ℕ} 0 1 = cc in absurd (omega arith)
     go false ih k = ih k

@@ -2,7 +2,7 @@
 use Prim.Native.Nat.{ℕ, suc, _+_, _-_, _*_, _/_, _<_}
 use native.Mathlib.Omega.{arith}
 use mathlib.Core.Path.{_≡_, refl, sym, ap, _∙_}
-use mathlib.Core.Bool.{Bool, true, false, _&&_}
+use mathlib.Core.Bool.{Bool, true, false, _&&_, cond}
 use mathlib.Core.List.{List, [], _∷_}
 use lib.Dec.{leb, eqb}
 use lib.ListN.{length, getD, drop}
@@ -15,7 +15,7 @@ use Rattle.journal.specs.Row.{Cell, Row, noCell, rowSize, cellOf, scoreO
 use Rattle.journal.specs.Ranges.{candidateLimit}
 use Rattle.journal.specs.Record.{recordLength, recordOf, floatAt, readCell, readDistance, headCount, headBefore, readRow}
 use Rattle.journal.specs.Journal.{rowOk}
-use Rattle.journal.specs.inner.Check.{whether, wellRead, bodyReads, recordAt}
+use Rattle.journal.specs.inner.Check.{wellRead, bodyReads, recordAt}
 use Rattle.journal.specs.declared.read.Record.{Record}
 use Rattle.journal.specs.declared.read.Record.the-variants.{Bad, Whole}
 use Rattle.journal.proofs.Reading.{length-record}
@@ -56,13 +56,12 @@ row-distance ws d k h =
 
 -- ---- what the row reader finds
 
-pick-and : {A : Type 0} (a b : Bool) (x y : A) → whether (a && b) x y ≡ whether a (whether b x y) y
-unfolding whether
-pick-and true b x y = refl
-pick-and false b x y = refl
+cond-and : {A : Type 0} (a b : Bool) (x y : A) → cond (a && b) x y ≡ cond a (cond b x y) y
+cond-and true b x y = refl
+cond-and false b x y = refl
 
 pub record-none : (q n : ℕ) (ws : List ℕ) → length ws ≡ 0 → recordAt q n ws ≡ Bad
-record-none q n [] e = unfold recordAt wellRead recordOf whether in refl
+record-none q n [] e = unfold recordAt wellRead recordOf in refl
 record-none q n (w ∷ ws) e = absurd (omega arith)
 
 -- its scores
@@ -87,11 +86,11 @@ found-at w body = cc (length-at w body, size-is w body, scores-at w body)
 -- test by test
 pub record-at : (q n : ℕ) (ws : List ℕ) → 0 < length ws
     → recordAt q n ws
-    ≡ whether (eqb (getD ws 0 0 / 1024) 262144)
-    (whether (leb (headCount (getD ws 0 0)) candidateLimit)
-    (whether (eqb (headBefore (getD ws 0 0)) (beforeOf q (headCount (getD ws 0 0))))
-    (whether (leb (recordLength (headCount (getD ws 0 0)) (headBefore (getD ws 0 0))) (length ws))
-    (whether (bodyReads (headCount (getD ws 0 0)) (headBefore (getD ws 0 0)) n ws) (found (headCount (getD ws 0 0)) (headBefore (getD ws 0 0)) ws) Bad)
+    ≡ cond (eqb (getD ws 0 0 / 1024) 262144)
+    (cond (leb (headCount (getD ws 0 0)) candidateLimit)
+    (cond (eqb (headBefore (getD ws 0 0)) (beforeOf q (headCount (getD ws 0 0))))
+    (cond (leb (recordLength (headCount (getD ws 0 0)) (headBefore (getD ws 0 0))) (length ws))
+    (cond (bodyReads (headCount (getD ws 0 0)) (headBefore (getD ws 0 0)) n ws) (found (headCount (getD ws 0 0)) (headBefore (getD ws 0 0)) ws) Bad)
     Bad)
     Bad)
     Bad)
@@ -103,17 +102,17 @@ record-at q n (w ∷ body) h =
     let r = found c p (w ∷ body) in
     let b3 = leb (recordLength c p) (suc (length body)) in
     let b4 = bodyReads c p n (w ∷ body) in
-    let whole : recordAt q n (w ∷ body) ≡ whether (wellRead recordOf readRow (rowOk q n) (w ∷ body)) (Whole (length (recordOf (readRow (w ∷ body)))) (rowSize (readRow (w ∷ body))) (scores (readRow (w ∷ body)))) Bad = unfold recordAt in refl in
+    let whole : recordAt q n (w ∷ body) ≡ cond (wellRead recordOf readRow (rowOk q n) (w ∷ body)) (Whole (length (recordOf (readRow (w ∷ body)))) (rowSize (readRow (w ∷ body))) (scores (readRow (w ∷ body)))) Bad = unfold recordAt in refl in
     whole
-    ∙ ap (λ (x : Row). whether (wellRead recordOf readRow (rowOk q n) (w ∷ body)) (Whole (length (recordOf x)) (rowSize x) (scores x)) Bad) (row-is w body)
-    ∙ ap (λ (x : Record). whether (wellRead recordOf readRow (rowOk q n) (w ∷ body)) x Bad) (found-at w body)
-    ∙ ap (λ (b : Bool). whether b r Bad) (record-test q n w body)
-    ∙ pick-and (eqb (w / 1024) 262144) (leb c candidateLimit && (eqb p (beforeOf q c) && (b3 && b4))) r Bad
-    ∙ ap (λ (x : Record). whether (eqb (w / 1024) 262144) x Bad)
-    (pick-and (leb c candidateLimit) (eqb p (beforeOf q c) && (b3 && b4)) r Bad
-    ∙ ap (λ (x : Record). whether (leb c candidateLimit) x Bad)
-    (pick-and (eqb p (beforeOf q c)) (b3 && b4) r Bad
-    ∙ ap (λ (x : Record). whether (eqb p (beforeOf q c)) x Bad) (pick-and b3 b4 r Bad)))
+    ∙ ap (λ (x : Row). cond (wellRead recordOf readRow (rowOk q n) (w ∷ body)) (Whole (length (recordOf x)) (rowSize x) (scores x)) Bad) (row-is w body)
+    ∙ ap (λ (x : Record). cond (wellRead recordOf readRow (rowOk q n) (w ∷ body)) x Bad) (found-at w body)
+    ∙ ap (λ (b : Bool). cond b r Bad) (record-test q n w body)
+    ∙ cond-and (eqb (w / 1024) 262144) (leb c candidateLimit && (eqb p (beforeOf q c) && (b3 && b4))) r Bad
+    ∙ ap (λ (x : Record). cond (eqb (w / 1024) 262144) x Bad)
+    (cond-and (leb c candidateLimit) (eqb p (beforeOf q c) && (b3 && b4)) r Bad
+    ∙ ap (λ (x : Record). cond (leb c candidateLimit) x Bad)
+    (cond-and (eqb p (beforeOf q c)) (b3 && b4) r Bad
+    ∙ ap (λ (x : Record). cond (eqb p (beforeOf q c)) x Bad) (cond-and b3 b4 r Bad)))
 
 -- by what each test gives
 pub record-by : (q n : ℕ) (ws : List ℕ) (a b d e f : Bool) → 0 < length ws
@@ -122,5 +121,5 @@ pub record-by : (q n : ℕ) (ws : List ℕ) (a b d e f : Bool) → 0 < length ws
     → eqb (headBefore (getD ws 0 0)) (beforeOf q (headCount (getD ws 0 0))) ≡ d
     → leb (recordLength (headCount (getD ws 0 0)) (headBefore (getD ws 0 0))) (length ws) ≡ e
     → bodyReads (headCount (getD ws 0 0)) (headBefore (getD ws 0 0)) n ws ≡ f
-    → whether a (whether b (whether d (whether e (whether f (found (headCount (getD ws 0 0)) (headBefore (getD ws 0 0)) ws) Bad) Bad) Bad) Bad) Bad ≡ recordAt q n ws
+    → cond a (cond b (cond d (cond e (cond f (found (headCount (getD ws 0 0)) (headBefore (getD ws 0 0)) ws) Bad) Bad) Bad) Bad) Bad ≡ recordAt q n ws
 record-by q n ws a b d e f h i j k l m = sym (record-at q n ws h ∙ rw (i, j, k, l, m))

@@ -16,7 +16,7 @@ use Rattle.journal.specs.Row.{Row, rowSize, scores, predecessor, sizeOf}
 use Rattle.journal.specs.Ranges.{rowLimit}
 use Rattle.journal.specs.Record.{usedWord, recordOf, readRow}
 use Rattle.journal.specs.Journal.{words, rowOk, recordOk, readRows, used, usedWords, readJournal}
-use Rattle.journal.specs.inner.Check.{whether, wellRead, recordAt, latestOf, candidatesOf, surveyOf, survey}
+use Rattle.journal.specs.inner.Check.{wellRead, recordAt, latestOf, candidatesOf, surveyOf, survey}
 use Rattle.journal.specs.declared.read.Record.the-variants.{Bad, Whole}
 use Rattle.journal.specs.declared.check.Predecessor.{Predecessor}
 use Rattle.journal.specs.declared.check.Predecessor.the-variants.{Nothing, At}
@@ -27,16 +27,16 @@ use Rattle.journal.proofs.Reading.{read-at, read-end}
 -- ---- the predecessor
 
 latest-size : (rs : List Row) → candidatesOf (latestOf rs) ≡ sizeOf (predecessor rs)
-unfolding latestOf predecessor whether
+unfolding latestOf predecessor
 latest-size [] = refl
 latest-size (r ∷ rs) = go (scores r) (latest-size rs)
   where
     go : (b : Bool) → candidatesOf (latestOf rs) ≡ sizeOf (predecessor rs)
-        → candidatesOf (whether b (At (suc (length (words rs))) (length rs) (rowSize r)) (latestOf rs)) ≡ sizeOf (cond b (some r) (predecessor rs))
+        → candidatesOf (cond b (At (suc (length (words rs))) (length rs) (rowSize r)) (latestOf rs)) ≡ sizeOf (cond b (some r) (predecessor rs))
     go true ih = refl
     go false ih = ih
 
-latest-new : (r : Row) (rs : List Row) → latestOf (r ∷ rs) ≡ whether (scores r) (At (suc (length (words rs))) (length rs) (rowSize r)) (latestOf rs)
+latest-new : (r : Row) (rs : List Row) → latestOf (r ∷ rs) ≡ cond (scores r) (At (suc (length (words rs))) (length rs) (rowSize r)) (latestOf rs)
 unfolding latestOf
 latest-new r rs = refl
 
@@ -49,7 +49,7 @@ module _ (rs : List Row) (ws : List ℕ) where
   abbrev passes : Bool
   passes = recordOk rs (readRow ws) ws
 
-  is-ok : recordAt (sizeOf (predecessor rs)) (length rs) ws ≡ whether passes (Whole (length (recordOf (readRow ws))) (rowSize (readRow ws)) (scores (readRow ws))) Bad
+  is-ok : recordAt (sizeOf (predecessor rs)) (length rs) ws ≡ cond passes (Whole (length (recordOf (readRow ws))) (rowSize (readRow ws)) (scores (readRow ws))) Bad
   unfolding recordAt wellRead
   is-ok = refl
 
@@ -61,18 +61,16 @@ module _ (rs : List Row) (ws : List ℕ) where
     pub ok : T (recordOk rs (readRow ws) ws)
 
   found : (l c : ℕ) (s : Bool) → recordAt (sizeOf (predecessor rs)) (length rs) ws ≡ Whole l c s → Found l c s
-  unfolding whether
   found l c s e = go passes refl (sym is-ok ∙ e)
     where
-      go : (b : Bool) → passes ≡ b → whether b (Whole (length (recordOf (readRow ws))) (rowSize (readRow ws)) (scores (readRow ws))) Bad ≡ Whole l c s → Found l c s
+      go : (b : Bool) → passes ≡ b → cond b (Whole (length (recordOf (readRow ws))) (rowSize (readRow ws)) (scores (readRow ws))) Bad ≡ Whole l c s → Found l c s
       go true q k = record { long = cc; many = cc; score = cc; ok = taken q }
       go false q k = whole-bad k
 
   bad : recordAt (sizeOf (predecessor rs)) (length rs) ws ≡ Bad → recordOk rs (readRow ws) ws ≡ false
-  unfolding whether
   bad e = go passes refl (sym is-ok ∙ e)
     where
-      go : (b : Bool) → passes ≡ b → whether b (Whole (length (recordOf (readRow ws))) (rowSize (readRow ws)) (scores (readRow ws))) Bad ≡ Bad → passes ≡ false
+      go : (b : Bool) → passes ≡ b → cond b (Whole (length (recordOf (readRow ws))) (rowSize (readRow ws)) (scores (readRow ws))) Bad ≡ Bad → passes ≡ false
       go true q k = whole-bad (sym k)
       go false q k = q
 
@@ -156,7 +154,7 @@ module _ (journal : List ℕ) (at rows : ℕ) (latest : Predecessor) (w : Walked
             let g = fits (w .standing) (drop at journal) (f .ok) in
             (omega (arith, f .long, g .0), omega (arith, f .long, g .1, length-drop at journal))
 
-        pub walked-turn : Walked journal (at + l) (rows + 1) (whether s (At at rows c) latest)
+        pub walked-turn : Walked journal (at + l) (rows + 1) (cond s (At at rows c) latest)
         walked-turn =
             let f = one-found in
             let r = readRow (drop at journal) in
@@ -176,7 +174,7 @@ module _ (journal : List ℕ) (at rows : ℕ) (latest : Predecessor) (w : Walked
             longer : (r : Row) → l ≡ length (recordOf r) → suc (length (words (r ∷ w .standing))) ≡ at + l
             longer r q = unfold words in omega (arith, length-append (words (w .standing)) (recordOf r), w .placed)
 
-            picked : (r : Row) → c ≡ rowSize r → s ≡ scores r → whether (scores r) (At (suc (length (words (w .standing)))) (length (w .standing)) (rowSize r)) (latestOf (w .standing)) ≡ whether s (At at rows c) latest
+            picked : (r : Row) → c ≡ rowSize r → s ≡ scores r → cond (scores r) (At (suc (length (words (w .standing)))) (length (w .standing)) (rowSize r)) (latestOf (w .standing)) ≡ cond s (At at rows c) latest
             picked r a b = cc (w .placed, w .counted, w .last)
 
   -- the end of the used words
@@ -200,20 +198,19 @@ used-kind w = same-test (eqb w (usedWord (w % 268435456))) (eqb (w / 268435456) 
 
 -- by what each test of word 0 gives
 pub survey-by : (s : List ℕ) (a b d : Bool) → eqb (getD s 0 0 / 268435456) 5 ≡ a → leb 1 (used s) ≡ b → leb (used s) (length s) ≡ d
-    → whether a (whether b (whether d (surveyOf (used s) (readRows rowLimit [] (drop 1 (usedWords s)))) NotWellFormed) NotWellFormed) NotWellFormed ≡ survey s
-unfolding survey readJournal whether
+    → cond a (cond b (cond d (surveyOf (used s) (readRows rowLimit [] (drop 1 (usedWords s)))) NotWellFormed) NotWellFormed) NotWellFormed ≡ survey s
+unfolding survey readJournal
 survey-by s a b d e f g = sym (rw (used-kind (getD s 0 0), e, f, g) (go a b d))
   where
     rest : Option (List Row)
     rest = readRows rowLimit [] (drop 1 (usedWords s))
 
-    go : (a b d : Bool) → surveyOf (used s) (cond (a && (b && d)) rest none) ≡ whether a (whether b (whether d (surveyOf (used s) rest) NotWellFormed) NotWellFormed) NotWellFormed
+    go : (a b d : Bool) → surveyOf (used s) (cond (a && (b && d)) rest none) ≡ cond a (cond b (cond d (surveyOf (used s) rest) NotWellFormed) NotWellFormed) NotWellFormed
     go true true true = refl
     go true true false = refl
     go true false d = refl
     go false b d = refl
 
 pub survey-none : (s : List ℕ) → length s ≡ 0 → NotWellFormed ≡ survey s
-unfolding whether
 survey-none [] e = survey-by [] false (leb 1 0) (leb 0 0) refl refl refl
 survey-none (w ∷ s) e = absurd (omega arith)

@@ -4,7 +4,7 @@ use mathlib.Core.Bool.{Bool, true, false, _&&_, _||_}
 use lib.Dec.{leb, ltb, eqb}
 use lib.IntN.{pos}
 use lib.Ieee.{Float, fin, binary64}
-use Rattle.binary64.specs.Values.{pzero, ofWhole, isMinusInfinity}
+use Rattle.binary64.specs.Values.{pzero, pone, ofWhole, isMinusInfinity}
 use Rattle.binary64.specs.Ranges.{inRange, inClearRange}
 use Rattle.journal.specs.declared.record.Candidate.{Candidate}
 use Rattle.journal.specs.Row.{Cell, noParent}
@@ -21,7 +21,7 @@ rowLimit = 65535
 
 -- 0 to 1, sign bit clear
 unfoldable pub intrinsicOk : Float → Bool
-intrinsicOk x = inClearRange pzero (fin false 1 (pos 0)) x
+intrinsicOk x = inClearRange pzero pone x
 
 -- minus infinity, or -745 to 0
 unfoldable pub rawLogOk : Float → Bool

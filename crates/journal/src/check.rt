@@ -1,13 +1,14 @@
 // Check 7: whether a journal is well formed, in one pass over the used words.
 use crate::read::Record;
 use crate::read::read_row;
+ghost use mathlib.Core.Bool.{cond};
 ghost use mathlib.Core.Path.{_≡_};
 ghost use Prim.Native.Nat.{_≤_};
 ghost use mathlib.Core.List.{[]};
 ghost use lib.ListN.{length, drop};
 ghost use Rattle.journal.specs.Ranges.{rowLimit};
 ghost use Rattle.journal.specs.Journal.{readRows};
-ghost use Rattle.journal.specs.inner.Check.{whether, candidatesOf, surveyOf, survey};
+ghost use Rattle.journal.specs.inner.Check.{candidatesOf, surveyOf, survey};
 
 // The predecessor of a further row: where its record starts, its number and how many candidates it has.
 pub enum Predecessor {
@@ -51,7 +52,7 @@ fn later(
     candidates: usize,
     scores: bool,
 ) -> Predecessor
-    ensures { λ r. ⌜ r ≡ whether scores (Predecessor.At place row candidates) latest ⌝ }
+    ensures { λ r. ⌜ r ≡ cond scores (Predecessor.At place row candidates) latest ⌝ }
 {
     if scores {
         return Predecessor::At {

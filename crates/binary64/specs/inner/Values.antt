@@ -15,5 +15,6 @@ isZero nan = false
 isZero (inf s) = false
 isZero (fin s m e) = eqb m 0
 
+-- -0.0
 abbrev pub nzero : Float
 nzero = fin true 0 (pos 0)

@@ -19,6 +19,6 @@ noElements = replicate 1024 0
 unfoldable pub bridgesOf : List ℕ → Bridges
 bridgesOf l = record { count = length l; elements = l ++ replicate (1024 - length l) 0 }
 
--- by a graph alone
+-- the elements between two, by a graph alone
 abbrev pub betweenIn : Graph → ℕ → ℕ → List ℕ
 betweenIn g previous next = betweenSides g previous next (cheapestOf (routesBy (λ side side′. route g previous side next side′)))

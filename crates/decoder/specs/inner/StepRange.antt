@@ -1,23 +1,18 @@
 -- The range that the theorem about two lists of calls asks of a step score.
 use Prim.Native.Nat.{ℕ, _≤_}
 use mathlib.Core.Path.{_≡_}
-use mathlib.Core.Bool.{true}
 use lib.Dec.{T}
-use lib.Ieee.{Float, binary64, le}
-use Rattle.binary64.specs.Values.{pzero, ofWhole}
+use lib.Ieee.{Float}
 use Rattle.journal.specs.Ranges.{elementLimit, candidateOk, distanceOk}
 use Rattle.journal.specs.declared.record.Candidate.{Candidate}
+use Rattle.transition.specs.inner.Range.{ScoreOk}
 use Rattle.transition.specs.declared.step.Step.the-variants.{Possible}
 use Rattle.rows.specs.Row.{StepScore}
-
--- -5 * 10^12
-abbrev pub lowestStep : Float
-lowestStep = ofWhole binary64 true 5_000_000_000_000
 
 -- what is asked of the step score in a network of n elements: in range a possible one is at most 0, and at least -5 * 10^12
 abbrev pub StepInRange : StepScore → ℕ → Type 0
 StepInRange step n =
-    (a b : Candidate) (d v : Float) → T (candidateOk n a) → T (candidateOk n b) → T (distanceOk d) → step a b d ≡ Possible v → T (le v pzero) × T (le lowestStep v)
+    (a b : Candidate) (d v : Float) → T (candidateOk n a) → T (candidateOk n b) → T (distanceOk d) → step a b d ≡ Possible v → ScoreOk v
 
 -- what holds of a network and settings that checks 1 to 6 pass
 abbrev pub ChecksHold : ℕ → StepScore → Type 0

@@ -1,6 +1,6 @@
 -- What the code of check 7 finds, by the definitions of reading.
 use Prim.Native.Nat.{ℕ, suc, _+_, _-_, _*_}
-use mathlib.Core.Bool.{Bool, true, false, _&&_}
+use mathlib.Core.Bool.{Bool, _&&_, cond}
 use mathlib.Core.List.{List, [], _∷_}
 use mathlib.Core.Option.{Option, none, some}
 use lib.Dec.{eqb}
@@ -18,10 +18,6 @@ use Rattle.journal.specs.declared.check.Predecessor.the-variants.{Nothin
 use Rattle.journal.specs.declared.check.Survey.{Survey}
 use Rattle.journal.specs.declared.check.Survey.the-variants.{NotWellFormed, WellFormed}
 
-unfoldable pub whether : {A : Type 0} → Bool → A → A → A
-whether true a b = a
-whether false a b = b
-
 -- ---- one record
 
 -- the words begin with those of what is read from them, which passes the test
@@ -38,14 +34,14 @@ bodyReads c p n ws =
 
 -- what the row reader finds: the record of row number n on a predecessor of q candidates
 unfoldable pub recordAt : ℕ → ℕ → List ℕ → Record
-recordAt q n ws = whether (wellRead recordOf readRow (rowOk q n) ws) (Whole (length (recordOf (readRow ws))) (rowSize (readRow ws)) (scores (readRow ws))) Bad
+recordAt q n ws = cond (wellRead recordOf readRow (rowOk q n) ws) (Whole (length (recordOf (readRow ws))) (rowSize (readRow ws)) (scores (readRow ws))) Bad
 
 -- ---- the journal
 
 -- the latest of these rows that scores
 unfoldable pub latestOf : List Row → Predecessor
 latestOf [] = Nothing
-latestOf (r ∷ rs) = whether (scores r) (At (suc (length (words rs))) (length rs) (rowSize r)) (latestOf rs)
+latestOf (r ∷ rs) = cond (scores r) (At (suc (length (words rs))) (length rs) (rowSize r)) (latestOf rs)
 
 -- how many candidates it has
 abbrev pub candidatesOf : Predecessor → ℕ

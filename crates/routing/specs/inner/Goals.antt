@@ -1,4 +1,4 @@
--- The routes from one node to several goals, which are nodes too.
+-- Routes between nodes: from one to another, and from one to several goals.
 use Prim.Native.Nat.{ℕ, _<_, _*_, _/_, _%_}
 use mathlib.Core.Path.{_≡_}
 use mathlib.Core.Bool.{true, false, cond}
@@ -36,11 +36,11 @@ pub record Noted (goals : List ℕ) (v : ℕ) (cost : Float) (found found′ : L
   pub reached : waiting ≡ 0 → (k : ℕ) → k < length goals → lt (getD found′ k nan) (inf false) ≡ true
   pub past : drop (length goals) found′ ≡ drop (length goals) found
 
--- between two nodes
+-- the route between two nodes
 abbrev pub nodeRoute : Graph → ℕ → ℕ → Route
 nodeRoute g v u = route g (v / 2) (v % 2) (u / 2) (u % 2)
 
--- of the search between two nodes, and of the route between two sides
+-- what the search between two nodes lists, into a buffer of so much room
 abbrev pub endAnswer : Graph → ℕ → ℕ → ℕ → Listing
 endAnswer g from goal room =
     routeFitted (costOfEnd (searched g from goal)) (length (statesOfEnd (2 * from) (4 * elementCount g) (searched g from goal))) room

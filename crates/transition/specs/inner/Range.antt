@@ -13,12 +13,12 @@ abbrev pub widest : Float
 widest = fin false 628125 (pos 5)
 
 -- -5 * 10^12
-abbrev pub leastStep : Float
-leastStep = fin true 1220703125 (pos 12)
+abbrev pub lowestStep : Float
+lowestStep = fin true 1220703125 (pos 12)
 
 -- at most 0 and at least -5 * 10^12
 abbrev pub ScoreOk : Float → Type 0
-ScoreOk v = T (le v pzero) × T (le leastStep v)
+ScoreOk v = T (le v pzero) × T (le lowestStep v)
 
 -- a cost of at most 2^32 m, with the sign clear
 abbrev pub RouteOk : Route → Type 0

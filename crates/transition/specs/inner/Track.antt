@@ -26,11 +26,11 @@ pub record TrackFits (t : Track) : Type 0 where
   pub sound : SoundGraph (t .graph)
   pub places : ElementLists (t .graph .lengths) (t .headings) (t .flags)
 
--- with the graph's links compiled
+-- the track of these lists, with the graph's links compiled
 abbrev pub trackIn : List Float → List Float → List ℕ → List ℕ → List ℕ → Track
 trackIn lengths headings flags heads links = record { graph = graphIn lengths heads links; headings = headings; flags = flags }
 
--- by the lists of a network's elements, and the routes between a's element and b's
+-- the step from a to b by the lists of a network's elements, and the routes between a's element and b's
 unfoldable pub stepThrough : List Float → List Float → List ℕ → Settings → Routes → Candidate → Candidate → Float → Step
 stepThrough lengths headings flags settings routes a b distance =
     stepScore settings a b (placeAt lengths headings flags (a .element) 0) (placeAt lengths headings flags (b .element) 2) routes distance

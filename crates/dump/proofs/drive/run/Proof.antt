@@ -1,4 +1,4 @@
--- `dump::drive::run` meets its contract: what is left of the turns falls. Assumes nothing.
+-- `dump::drive::run` meets its contract: what is left of the lines falls. Assumes nothing.
 use Prim.Native.Nat.{_-_}
 use native.Mathlib.Omega.{arith}
 use Rattle.dump.proofs.drive.run.Statement.{statement}

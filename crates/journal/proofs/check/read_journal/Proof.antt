@@ -7,7 +7,7 @@ use mathlib.Core.Path.{refl, sym, ap, _∙_}
 use borrow.Author.Tests.{eq-eqb, ne-eqb, le-leb, lt-leb}
 use lib.Seq.{length-take-le}
 use lib.ListN.{drop}
-use Rattle.journal.specs.inner.Check.{whether, surveyOf}
+use Rattle.journal.specs.inner.Check.{surveyOf}
 use Rattle.journal.specs.Journal.{readRows, used, usedWords}
 use Rattle.journal.specs.Ranges.{rowLimit}
 use Rattle.journal.proofs.Walk.{survey-none, survey-by}
@@ -21,20 +21,17 @@ shared-slice-read-word : tie.Need-shared-slice-read-word
 shared-slice-read-word c = omega arith
 
 returns-2 : tie.Need-returns-2
-unfolding whether
 returns-2 c = survey-by (c .before .before .before .before .args .journal .now) false _ _ (ne-eqb _ _ (c .if2 .taken)) refl refl
 
 cast-used : tie.Need-cast-used
 cast-used c = omega arith
 
 returns-3 : tie.Need-returns-3
-unfolding whether
 returns-3 c =
     let l : used (c .before .before .before .before .before .args .journal .now) < 1 = omega arith in
     survey-by (c .before .before .before .before .before .args .journal .now) true false _ (eq-eqb _ _ (c .before .if2 .left)) (lt-leb _ _ l) refl
 
 returns-4 : tie.Need-returns-4
-unfolding whether
 returns-4 c =
     let l : 1 ≤ used (c .before .before .before .before .before .before .args .journal .now) = omega arith in
     survey-by (c .before .before .before .before .before .before .args .journal .now) true true false (eq-eqb _ _ (c .before .before .if2 .left)) (le-leb _ _ l) (lt-leb _ _ (c .if4 .taken))
@@ -46,7 +43,6 @@ walk-requires : tie.Need-walk-requires
 walk-requires c κs = omega (arith, length-take-le (used (c .before .before .before .before .before .before .before .args .journal .now)) (c .before .before .before .before .before .before .before .args .journal .now) (c .before .if4 .left))
 
 returns-5 : tie.Need-returns-5
-unfolding whether
 returns-5 c =
     let s = c .before .before .before .before .before .before .before .before .args .journal .now in
     let l : 1 ≤ used s = omega arith in

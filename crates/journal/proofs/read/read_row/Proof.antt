@@ -4,7 +4,6 @@ use mathlib.Core.Bool.{true, false}
 use mathlib.Core.Path.{refl, sym, _∙_}
 use borrow.Author.Tests.{eq-eqb, ne-eqb, le-leb, lt-leb, not-true, not-false}
 use borrow.Author.Needs.{needs}
-use Rattle.journal.specs.inner.Check.{whether}
 use Rattle.journal.specs.Record.{recordLength}
 use Rattle.journal.proofs.RecordRead.{record-none, record-by}
 use Rattle.journal.proofs.read.read_row.Statement.{statement}
@@ -17,7 +16,6 @@ shared-slice-read-head : tie.Need-shared-slice-read-head
 shared-slice-read-head c = omega arith
 
 returns-2 : tie.Need-returns-2
-unfolding whether
 returns-2 c =
     let s = c .before .before .before .before .args in
     record-by (s .q) (s .row) (s .words .now) false _ _ _ _ (omega arith) (ne-eqb _ _ (c .if2 .taken)) refl refl refl refl
@@ -29,7 +27,6 @@ cast-p : tie.Need-cast-p
 cast-p c = omega arith
 
 returns-3 : tie.Need-returns-3
-unfolding whether
 returns-3 c =
     let s = c .before .before .before .before .before .args in
     record-by (s .q) (s .row) (s .words .now) true false _ _ _ (omega arith) (eq-eqb _ _ (c .before .if2 .left)) (lt-leb _ _ (c .if3 .taken)) refl refl refl
@@ -38,7 +35,6 @@ before-of-requires : tie.Need-before-of-requires
 before-of-requires c κs = search needs
 
 returns-4 : tie.Need-returns-4
-unfolding whether
 returns-4 c =
     let s = c .before .before .before .before .before .before .before .args in
     record-by (s .q) (s .row) (s .words .now) true true false _ _ (omega arith) (eq-eqb _ _ (c .before .before .before .if2 .left)) (le-leb _ _ (c .before .before .if3 .left)) (ne-eqb _ _ (rw (c .before .before-of .ensures) at (c .if4 .taken))) refl refl
@@ -47,7 +43,6 @@ record-length-requires : tie.Need-record-length-requires
 record-length-requires c κs = search needs
 
 returns-5 : tie.Need-returns-5
-unfolding whether
 returns-5 c =
     let s = c .before .before .before .before .before .before .before .before .before .args in
     record-by (s .q) (s .row) (s .words .now) true true true false _ (omega arith) (eq-eqb _ _ (c .before .before .before .before .before .if2 .left)) (le-leb _ _ (c .before .before .before .before .if3 .left)) (eq-eqb _ _ (c .before .before .if4 .left ∙ c .before .before .before .before-of .ensures)) (lt-leb _ _ (rw (c .before .record-length .ensures .0) at (c .if5 .taken))) refl
@@ -56,7 +51,6 @@ body-reads-requires : tie.Need-body-reads-requires
 body-reads-requires c κs = search needs
 
 returns-6 : tie.Need-returns-6
-unfolding whether
 returns-6 c =
     let s = c .before .before .before .before .before .before .before .before .before .before .before .args in
     record-by (s .q) (s .row) (s .words .now) true true true true false (omega arith) (eq-eqb _ _ (c .before .before .before .before .before .before .before .if2 .left)) (le-leb _ _ (c .before .before .before .before .before .before .if3 .left)) (eq-eqb _ _ (c .before .before .before .before .if4 .left ∙ c .before .before .before .before .before .before-of .ensures)) (le-leb _ _ (rw (c .before .before .before .record-length .ensures .0) at (c .before .before .if5 .left)))
@@ -67,7 +61,6 @@ unfolding recordLength
 scores-read-requires c κs = omega (arith, c .before .before .before .record-length .ensures .0)
 
 returns-7 : tie.Need-returns-7
-unfolding whether
 returns-7 c =
     let s = c .before .before .before .before .before .before .before .before .before .before .before .before .args in
     rw (c .scores-read .ensures, c .before .before .before .before .record-length .ensures .0)

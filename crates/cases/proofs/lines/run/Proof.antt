@@ -1,8 +1,8 @@
--- `cases::turn::run` meets its contract: what is left of the turns falls. Assumes nothing.
+-- `cases::lines::run` meets its contract: what is left of the lines falls. Assumes nothing.
 use Prim.Native.Nat.{_-_}
 use native.Mathlib.Omega.{arith}
-use Rattle.cases.proofs.turn.run.Statement.{statement}
-use Rattle.cases.proofs.turn.run.Tie as tie
+use Rattle.cases.proofs.lines.run.Statement.{statement}
+use Rattle.cases.proofs.lines.run.Tie as tie
 
 abbrev Inv-loop : tie.InvT-loop
 Inv-loop text₀ floats₀ numbers₀ journal₀ cuts₀ held-numbers₀ held-intrinsics₀ out₀ line₀ counter₀ text floats numbers journal cuts held-numbers held-intrinsics out line counter = Unit {0}

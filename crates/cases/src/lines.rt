@@ -1,4 +1,4 @@
-// The lines of the input, one after the other.
+// Every line of the input is answered in turn.
 use crate::held::HeldIntrinsics;
 use crate::held::HeldNumbers;
 use crate::line::answer;
