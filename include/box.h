@@ -66,7 +66,7 @@ enum box_status {
 
 /* The words of a row's record: c candidates, on a predecessor of p (0 where the row has no distances). A journal needs
    one word and those of each row. */
-#define BOX_RECORD_WORDS(c, p) (7 * (c) + 2 * (c) * (p) + 3)
+#define BOX_RECORD_WORDS(c, p) (7 * (c) + 2 * (c) * (p) + 4)
 
 #define BOX_STACK_BYTES 131072 /* measured on x86-64 */
 

@@ -1,5 +1,6 @@
 // A row's record at the head of some words: a candidate's parent, and whether the row scores.
 use journal::float::is_finite;
+use journal::record::HEAD_WORDS;
 use rows::previous::best_previous;
 ghost use mathlib.Core.Path.{_≡_};
 ghost use Rattle.journal.specs.Row.{cellOf, scores};
@@ -12,7 +13,7 @@ pub fn parent_of(words: &[u32], i: usize) -> u32
     requires { ⌜ CandidateStands (now words) i ⌝ }
     ensures { λ r. ⌜ r ≡ cellOf (readRow (now (words .entry))) i .parent ⌝ }
 {
-    words[1 + 7 * i] / 2048 % 32
+    words[HEAD_WORDS + 7 * i] / 2048 % 32
 }
 
 // Whether the row scores: its best score is finite.

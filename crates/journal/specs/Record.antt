@@ -24,6 +24,10 @@ distancesWord n = 0x30000000 + n
 abbrev pub lengthWord : ℕ → ℕ
 lengthWord n = 0x40000000 + n
 
+-- kind 7: where the predecessor's head word stands, counted from word 0, or 0 for none (28)
+abbrev pub predecessorWord : ℕ → ℕ
+predecessorWord place = 0x70000000 + place
+
 -- word 0, kind 5: used words (28)
 abbrev pub usedWord : ℕ → ℕ
 usedWord n = 0x50000000 + n
@@ -40,6 +44,10 @@ floatWords x = highHalf x ∷ lowHalf x ∷ []
 
 -- ---- a row's record
 
+-- the words before its candidates': the head word and the predecessor's
+abbrev pub headWords : ℕ
+headWords = 2
+
 abbrev pub cellWords : Cell → List ℕ
 cellWords c =
     candidateWord (c .candidate .element) (c .candidate .near) (c .parent)
@@ -52,11 +60,13 @@ distancesWords ds = distancesWord (length ds) ∷ flat floatWords ds
 
 -- the record length of c candidates with p predecessor candidates
 unfoldable pub recordLength : ℕ → ℕ → ℕ
-recordLength c p = 7 * c + 2 * (c * p) + 3
+recordLength c p = 7 * c + 2 * (c * p) + 4
 
-unfoldable pub recordOf : Row → List ℕ
-recordOf r =
-    headWord (rowSize r) (r .before) ∷ (flat cellWords (r .cells) ++ (distancesWords (r .distances) ++ (lengthWord (recordLength (rowSize r) (r .before)) ∷ [])))
+-- of a row whose predecessor's record starts at `place`
+unfoldable pub recordOf : ℕ → Row → List ℕ
+recordOf place r =
+    headWord (rowSize r) (r .before) ∷ predecessorWord place
+    ∷ (flat cellWords (r .cells) ++ (distancesWords (r .distances) ++ (lengthWord (recordLength (rowSize r) (r .before)) ∷ [])))
 
 -- ---- reading back
 
@@ -99,4 +109,4 @@ unfoldable pub readRow : List ℕ → Row
 readRow ws =
     let c = headCount (getD ws 0 0) in
     let p = headBefore (getD ws 0 0) in
-    record { cells = readEach readCell 7 c (drop 1 ws); before = p; distances = readEach readDistance 2 (c * p) (drop 1 (drop (7 * c) (drop 1 ws))) }
+    record { cells = readEach readCell 7 c (drop headWords ws); before = p; distances = readEach readDistance 2 (c * p) (drop 1 (drop (7 * c) (drop headWords ws))) }

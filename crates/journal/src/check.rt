@@ -3,12 +3,12 @@ use crate::read::Record;
 use crate::read::read_row;
 ghost use mathlib.Core.Bool.{cond};
 ghost use mathlib.Core.Path.{_≡_};
-ghost use Prim.Native.Nat.{_≤_};
+ghost use Prim.Native.Nat.{_<_, _≤_};
 ghost use mathlib.Core.List.{[]};
 ghost use lib.ListN.{length, drop};
 ghost use Rattle.journal.specs.Ranges.{rowLimit};
 ghost use Rattle.journal.specs.Journal.{readRows};
-ghost use Rattle.journal.specs.inner.Check.{candidatesOf, surveyOf, survey};
+ghost use Rattle.journal.specs.inner.Check.{candidatesOf, placeOf, surveyOf, survey};
 
 // The predecessor of a further row: where its record starts, its number and how many candidates it has.
 pub enum Predecessor {
@@ -44,6 +44,20 @@ pub fn candidates_of(latest: Predecessor) -> usize
     }
 }
 
+// Where its record starts; the first word without one.
+pub fn place_of(latest: Predecessor) -> usize
+    ensures { λ r. ⌜ r ≡ placeOf latest ⌝ }
+{
+    match latest {
+        Predecessor::Nothing => 0,
+        Predecessor::At {
+            place,
+            row: _,
+            candidates: _,
+        } => place,
+    }
+}
+
 // The predecessor after a further row, whose record starts at `place`.
 fn later(
     latest: Predecessor,
@@ -66,7 +80,7 @@ fn later(
 
 // Record by record over a journal of used words alone.
 pub fn walk(journal: &[u32]) -> Survey
-    requires { ⌜ 1 ≤ length (now journal) ⌝ }
+    requires { ⌜ (1 ≤ length (now journal)) × (length (now journal) < 268435456) ⌝ }
     ensures { λ r. ⌜ r ≡ surveyOf (length (now (journal .entry))) (readRows rowLimit [] (drop 1 (now (journal .entry)))) ⌝ }
 {
     let mut at = 1;
@@ -76,7 +90,12 @@ pub fn walk(journal: &[u32]) -> Survey
         if rows == 65535 {
             return Survey::NotWellFormed;
         }
-        let record = read_row(&journal[at..], candidates_of(latest), rows);
+        let record = read_row(
+            &journal[at..],
+            place_of(latest),
+            candidates_of(latest),
+            rows,
+        );
         match record {
             Record::Whole {
                 length,

@@ -8,6 +8,7 @@ use crate::halves::score_reads;
 use crate::range::distance_ok;
 use crate::range::parent_ok;
 use crate::record::Candidate;
+use crate::record::HEAD_WORDS;
 use crate::record::distance_count;
 use crate::record::record_length;
 ghost use mathlib.Core.Path.{_≡_};
@@ -17,7 +18,7 @@ ghost use lib.Ieee.Scale.{finite};
 ghost use Rattle.lists.specs.Loops.{anyBelow, everyBelow};
 ghost use Rattle.journal.specs.Row.{beforeOf};
 ghost use Rattle.journal.specs.Ranges.{distanceOk, cellOk};
-ghost use Rattle.journal.specs.Record.{cellWords, floatWords, floatAt, readCell, readDistance, recordLength};
+ghost use Rattle.journal.specs.Record.{headWords, cellWords, floatWords, floatAt, readCell, readDistance, recordLength};
 ghost use Rattle.journal.specs.inner.Check.{wellRead, bodyReads, recordAt};
 
 // What stands at the head of some words: no record, or a record's length, its number of candidates and whether its row scores.
@@ -67,12 +68,12 @@ fn cell_reads(words: &[u32], at: usize, p: u32, row: usize) -> bool
 
 // Whether those of c candidates are.
 fn cells_read(words: &[u32], c: usize, p: u32, row: usize) -> bool
-    requires { ⌜ (1 + 7 * c ≤ length (now words)) × (row < 65536) ⌝ }
-    ensures { λ r. ⌜ r ≡ everyBelow c (λ k. wellRead cellWords readCell (cellOk p row) (drop (1 + 7 * k) (now (words .entry)))) ⌝ }
+    requires { ⌜ (headWords + 7 * c ≤ length (now words)) × (row < 65536) ⌝ }
+    ensures { λ r. ⌜ r ≡ everyBelow c (λ k. wellRead cellWords readCell (cellOk p row) (drop (headWords + 7 * k) (now (words .entry)))) ⌝ }
 {
     let mut k = 0;
     while k < c {
-        if !cell_reads(words, 1 + 7 * k, p, row) {
+        if !cell_reads(words, HEAD_WORDS + 7 * k, p, row) {
             return false;
         }
         k += 1;
@@ -116,12 +117,12 @@ fn distances_read(words: &[u32], at: usize, n: usize) -> bool
 
 // Whether one of the scores of c candidates is finite.
 fn scores_read(words: &[u32], c: usize) -> bool
-    requires { ⌜ 1 + 7 * c ≤ length (now words) ⌝ }
-    ensures { λ r. ⌜ r ≡ anyBelow c (λ k. finite (floatAt (now (words .entry)) (6 + 7 * k))) ⌝ }
+    requires { ⌜ headWords + 7 * c ≤ length (now words) ⌝ }
+    ensures { λ r. ⌜ r ≡ anyBelow c (λ k. finite (floatAt (now (words .entry)) (headWords + 7 * k + 5))) ⌝ }
 {
     let mut k = 0;
     while k < c {
-        if finite_reads(words, 6 + 7 * k) {
+        if finite_reads(words, HEAD_WORDS + 7 * k + 5) {
             return true;
         }
         k += 1;
@@ -136,17 +137,20 @@ pub fn before_of(q: usize, c: usize) -> usize
     if c == 0 { 0 } else { q }
 }
 
-// Whether what follows the head word of c candidates with p predecessor candidates is a record's.
-fn body_reads(words: &[u32], c: usize, p: usize, row: usize) -> bool
-    requires { ⌜ (c < 32) × (p < 32) × (row < 65536) ⌝ }
+// Whether what follows the head word of c candidates with p predecessor candidates is a record's, with the predecessor's at `place`.
+fn body_reads(words: &[u32], place: usize, c: usize, p: usize, row: usize) -> bool
+    requires { ⌜ (c < 32) × (p < 32) × (row < 65536) × (place < 268435456) ⌝ }
     requires { ⌜ recordLength c p ≤ length (now words) ⌝ }
-    ensures { λ r. ⌜ r ≡ bodyReads c p row (now (words .entry)) ⌝ }
+    ensures { λ r. ⌜ r ≡ bodyReads place c p row (now (words .entry)) ⌝ }
 {
+    if words[1] != 0x7000_0000 + place as u32 {
+        return false;
+    }
     if !cells_read(words, c, p as u32, row) {
         return false;
     }
     let n = distance_count(c, p);
-    let at = 1 + 7 * c;
+    let at = HEAD_WORDS + 7 * c;
     if words[at] != 0x3000_0000 + n as u32 {
         return false;
     }
@@ -158,10 +162,10 @@ fn body_reads(words: &[u32], c: usize, p: usize, row: usize) -> bool
     words[last] == 0x4000_0000 + length as u32
 }
 
-// The record at the head of the words, as this row on a predecessor of q candidates.
-pub fn read_row(words: &[u32], q: usize, row: usize) -> Record
-    requires { ⌜ row < 65536 ⌝ }
-    ensures { λ r. ⌜ r ≡ recordAt q row (now (words .entry)) ⌝ }
+// The record at the head of the words, as this row on a predecessor of q candidates, whose record starts at `place`.
+pub fn read_row(words: &[u32], place: usize, q: usize, row: usize) -> Record
+    requires { ⌜ (row < 65536) × (place < 268435456) ⌝ }
+    ensures { λ r. ⌜ r ≡ recordAt place q row (now (words .entry)) ⌝ }
 {
     if words.len() == 0 {
         return Record::Bad;
@@ -182,7 +186,7 @@ pub fn read_row(words: &[u32], q: usize, row: usize) -> Record
     if words.len() < length {
         return Record::Bad;
     }
-    if !body_reads(words, c, p, row) {
+    if !body_reads(words, place, c, p, row) {
         return Record::Bad;
     }
     let scores = scores_read(words, c);

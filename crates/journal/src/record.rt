@@ -11,7 +11,7 @@ ghost use Rattle.journal.specs.Lists.{flat};
 ghost use Rattle.journal.specs.Row.{Cell, Row, noCell};
 ghost use Rattle.journal.specs.inner.Row.{cellsOf, rowOf, CellWritable, RowWritable};
 ghost use Rattle.journal.specs.inner.Fix.{candidatesIn, fixIn, Entries16};
-ghost use Rattle.journal.specs.Record.{cellWords, distancesWords, recordLength, recordOf};
+ghost use Rattle.journal.specs.Record.{cellWords, distancesWords, headWords, recordLength, recordOf};
 ghost use Rattle.journal.specs.Journal.{put};
 
 // Document 01's candidate: an element number, an intrinsic, a near flag and a raw log.
@@ -21,6 +21,9 @@ pub struct Candidate {
     pub near: u32,
     pub raw_log: f64,
 }
+
+// The words of a record before its candidates': its head, and its predecessor's place.
+pub const HEAD_WORDS: usize = 2;
 
 // How many distances c candidates have with p predecessor candidates.
 pub fn distance_count(c: usize, p: usize) -> usize
@@ -33,9 +36,9 @@ pub fn distance_count(c: usize, p: usize) -> usize
 // The record length of c candidates with p predecessor candidates.
 pub fn record_length(c: usize, p: usize) -> usize
     requires { ⌜ (c < 32) × (p < 32) ⌝ }
-    ensures { λ r. ⌜ r ≡ recordLength c p ⌝ ∗ ⌜ r ≤ 2142 ⌝ }
+    ensures { λ r. ⌜ r ≡ recordLength c p ⌝ ∗ ⌜ r ≤ 2143 ⌝ }
 {
-    7 * c + 2 * distance_count(c, p) + 3
+    7 * c + 2 * distance_count(c, p) + 4
 }
 
 // The seven words of a candidate, its parent and its score at `at`.
@@ -52,18 +55,18 @@ fn put_cell(words: &mut [u32], at: usize, c: Candidate, parent: u32, score: f64)
     put_float(words, at + 5, score);
 }
 
-// The words of all candidates, from word 1 on.
+// The words of all candidates, past the head words.
 fn put_cells(words: &mut [u32], fix: Candidates, parents: &[u32; 16], scores: &[f64; 16])
     ghost { List Cell }
     requires { λ cells. ⌜ cellsOf (candidatesIn fix) (now parents) (now scores) ≡ cells ⌝ }
     requires { λ _. ⌜ Entries16 fix ⌝ }
     requires { λ cells. ⌜ ((k : ℕ) → k < length cells → CellWritable (getD cells k noCell)) ⌝ }
-    requires { λ cells. ⌜ 1 + 7 * length cells ≤ length (now words) ⌝ }
-    ensures { λ cells _. ⌜ now (words .exit) ≡ sets (now (words .entry)) 1 (flat cellWords cells) ⌝ }
+    requires { λ cells. ⌜ headWords + 7 * length cells ≤ length (now words) ⌝ }
+    ensures { λ cells _. ⌜ now (words .exit) ≡ sets (now (words .entry)) headWords (flat cellWords cells) ⌝ }
 {
     for k in 0..fix.count {
         let c = own_candidate(fix, k);
-        put_cell(words, 1 + 7 * k, c, parents[k], scores[k]);
+        put_cell(words, HEAD_WORDS + 7 * k, c, parents[k], scores[k]);
     }
 }
 
@@ -82,9 +85,10 @@ fn put_distances(words: &mut [u32], at: usize, distances: &[f64])
     }
 }
 
-// A row's record from the first word on: its length.
+// The record of a row whose predecessor's starts at `place`, from the first word on: its length.
 fn put_row(
     words: &mut [u32],
+    place: usize,
     fix: Candidates,
     distances: &[f64],
     parents: &[u32; 16],
@@ -94,22 +98,24 @@ fn put_row(
     ghost { Row }
     requires { λ row. ⌜ rowOf (fixIn fix (now distances)) (now parents) (now scores) p ≡ row ⌝ }
     requires { λ row. ⌜ Entries16 fix × RowWritable row ⌝ }
-    requires { λ row. ⌜ length (recordOf row) ≤ length (now words) ⌝ }
-    ensures { λ row r. ⌜ r ≡ length (recordOf row) ⌝ ∗ ⌜ now (words .exit) ≡ sets (now (words .entry)) 0 (recordOf row) ⌝ }
+    requires { λ row. ⌜ (length (recordOf place row) ≤ length (now words)) × (place < 268435456) ⌝ }
+    ensures { λ row r. ⌜ r ≡ length (recordOf place row) ⌝ ∗ ⌜ now (words .exit) ≡ sets (now (words .entry)) 0 (recordOf place row) ⌝ }
 {
     let n = fix.count;
     let length = record_length(n, p);
     words[0] = 0x1000_0000 + n as u32 + 32 * p as u32;
+    words[1] = 0x7000_0000 + place as u32;
     put_cells(words, fix, parents, scores);
-    put_distances(words, 1 + 7 * n, distances);
+    put_distances(words, HEAD_WORDS + 7 * n, distances);
     words[length - 1] = 0x4000_0000 + length as u32;
     length
 }
 
-// A row's record into the words past the used ones, and then word 0.
+// The record of a row whose predecessor's starts at `place` into the words past the used ones, and then word 0.
 pub fn add_row(
     journal: &mut [u32],
     used: usize,
+    place: usize,
     fix: Candidates,
     distances: &[f64],
     parents: &[u32; 16],
@@ -119,10 +125,11 @@ pub fn add_row(
     ghost { Row }
     requires { λ row. ⌜ rowOf (fixIn fix (now distances)) (now parents) (now scores) p ≡ row ⌝ }
     requires { λ row. ⌜ Entries16 fix × RowWritable row ⌝ }
-    requires { λ row. ⌜ (used + length (recordOf row) ≤ length (now journal)) × (used + length (recordOf row) < 268435456) ⌝ }
-    ensures { λ row _. ⌜ now (journal .exit) ≡ put (now (journal .entry)) used row ⌝ }
+    requires { λ row. ⌜ (used + length (recordOf place row) ≤ length (now journal)) × (used + length (recordOf place row) < 268435456) ⌝ }
+    requires { λ _. ⌜ place ≤ used ⌝ }
+    ensures { λ row _. ⌜ now (journal .exit) ≡ put (now (journal .entry)) used place row ⌝ }
 {
-    let n = put_row(&mut journal[used..], fix, distances, parents, scores, p);
+    let n = put_row(&mut journal[used..], place, fix, distances, parents, scores, p);
     let end = used + n;
     journal[0] = 0x5000_0000 + end as u32;
 }

@@ -9,7 +9,7 @@ use lib.ListN.{length, drop, set}
 use lib.Ieee.{le}
 use Rattle.binary64.specs.Values.{pzero}
 use Rattle.journal.specs.Row.{Row, noParent, rowSize, cellOf, scoreOf, scores, predecessor, sizeOf}
-use Rattle.journal.specs.Record.{readRow}
+use Rattle.journal.specs.Record.{headWords, readRow}
 use Rattle.journal.specs.Journal.{words, readJournal}
 use Rattle.journal.specs.inner.Check.{survey}
 use Rattle.journal.specs.declared.check.Predecessor.the-variants.{At}
@@ -20,7 +20,7 @@ use Rattle.closing.specs.declared.walk.Back.{Back}
 
 -- a row's record at the head of the words: its candidates with their words, and no score above 0
 pub record RecordInRange (words : List ℕ) : Type 0 where
-  pub room : 1 + 7 * rowSize (readRow words) ≤ length words
+  pub room : headWords + 7 * rowSize (readRow words) ≤ length words
   pub score : (i : ℕ) → T (le (scoreOf (readRow words) i) pzero)
 
 -- the rows of a journal that is well formed

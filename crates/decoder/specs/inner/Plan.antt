@@ -15,11 +15,10 @@ use Rattle.journal.specs.Lists.{each}
 use Rattle.journal.specs.Row.{Fix, Row, Given, candidateCount, predecessor, sizeOf, beforeOf}
 use Rattle.journal.specs.Ranges.{candidateLimit, rowLimit, candidateOk}
 use Rattle.journal.specs.Record.{recordOf}
-use Rattle.journal.specs.Journal.{journal, put, used, readJournal}
+use Rattle.journal.specs.Journal.{journal, predecessorPlace, put, used, readJournal}
 use Rattle.journal.specs.inner.Check.{latestOf}
 use Rattle.journal.specs.Call.{firstFailed}
 use Rattle.journal.specs.declared.check.Predecessor.{Predecessor}
-use Rattle.journal.specs.declared.check.Predecessor.the-variants.{Nothing, At}
 use Rattle.rows.specs.Row.{StepScore, row}
 use Rattle.decoder.specs.Call.{knownRow, feedChecks}
 use Rattle.decoder.specs.declared.plan.Plan.{Plan}
@@ -64,11 +63,6 @@ knownRead n (some rs) = each (knownRow n) rs
 
 -- ---- a fix that is written
 
--- where the predecessor's record starts, 0 without one
-abbrev pub placeOf : Predecessor → ℕ
-placeOf Nothing = 0
-placeOf (At place row candidates) = place
-
 -- what checks 1 to 12 leave: a track whose lists fit, and rows on which the fix passes, with this predecessor
 pub record Feedable (t : Track) (settings : Settings) (s : List ℕ) (f : Fix) (latest : Predecessor) : Type 0 where
   pub fits : TrackFits t
@@ -80,11 +74,11 @@ pub record Feedable (t : Track) (settings : Settings) (s : List ℕ) (f : Fix) (
   pub known : T (each (knownRow (elementCount (t .graph))) rows)
   pub distances : length (f .distances) ≡ candidateCount f * beforeOf (sizeOf (predecessor rows)) (candidateCount f)
   pub further : length rows < rowLimit
-  pub room : length (journal rows) + length (recordOf (row (stepOn t settings) (predecessor rows) f)) ≤ length s
+  pub room : length (journal rows) + length (recordOf (predecessorPlace rows) (row (stepOn t settings) (predecessor rows) f)) ≤ length s
 
 abbrev pub writtenOn : StepScore → List ℕ → Fix → Option (List Row) → List ℕ
 writtenOn step s f none = s
-writtenOn step s f (some rs) = put s (used s) (row step (predecessor rs) f)
+writtenOn step s f (some rs) = put s (used s) (predecessorPlace rs) (row step (predecessor rs) f)
 
 -- the record of the fix's row on those that stand, and word 0 with it counted
 unfoldable pub written : StepScore → List ℕ → Fix → List ℕ

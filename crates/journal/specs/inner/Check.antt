@@ -9,7 +9,7 @@ use Rattle.lists.specs.Loops.{everyBelow}
 use Rattle.journal.specs.Lists.{starts}
 use Rattle.journal.specs.Row.{Row, rowSize, scores}
 use Rattle.journal.specs.Ranges.{distanceOk, cellOk}
-use Rattle.journal.specs.Record.{distancesWord, lengthWord, cellWords, floatWords, recordLength, recordOf, readCell, readDistance, readRow}
+use Rattle.journal.specs.Record.{distancesWord, lengthWord, predecessorWord, headWords, cellWords, floatWords, recordLength, recordOf, readCell, readDistance, readRow}
 use Rattle.journal.specs.Journal.{words, rowOk, used, readJournal}
 use Rattle.journal.specs.declared.read.Record.{Record}
 use Rattle.journal.specs.declared.read.Record.the-variants.{Bad, Whole}
@@ -24,17 +24,20 @@ use Rattle.journal.specs.declared.check.Survey.the-variants.{NotWellForm
 unfoldable pub wellRead : {A : Type 0} → (A → List ℕ) → (List ℕ → A) → (A → Bool) → List ℕ → Bool
 wellRead part read test ws = starts (part (read ws)) ws && test (read ws)
 
--- word by word, past a head word of c candidates with p predecessor candidates: cells, number of distances, distances, record length
-unfoldable pub bodyReads : ℕ → ℕ → ℕ → List ℕ → Bool
-bodyReads c p n ws =
-    everyBelow c (λ k. wellRead cellWords readCell (cellOk p n) (drop (1 + 7 * k) ws))
-    && (eqb (getD ws (1 + 7 * c) 0) (distancesWord (c * p))
-    && (everyBelow (c * p) (λ k. wellRead floatWords readDistance distanceOk (drop (1 + 7 * c + 1 + 2 * k) ws))
-    && eqb (getD ws (recordLength c p - 1) 0) (lengthWord (recordLength c p))))
+-- word by word, past a head word of c candidates with p predecessor candidates: the predecessor's place, cells, number of distances, distances,
+-- record length
+unfoldable pub bodyReads : ℕ → ℕ → ℕ → ℕ → List ℕ → Bool
+bodyReads place c p n ws =
+    eqb (getD ws 1 0) (predecessorWord place)
+    && (everyBelow c (λ k. wellRead cellWords readCell (cellOk p n) (drop (headWords + 7 * k) ws))
+    && (eqb (getD ws (headWords + 7 * c) 0) (distancesWord (c * p))
+    && (everyBelow (c * p) (λ k. wellRead floatWords readDistance distanceOk (drop (headWords + 7 * c + 1 + 2 * k) ws))
+    && eqb (getD ws (recordLength c p - 1) 0) (lengthWord (recordLength c p)))))
 
--- what the row reader finds: the record of row number n on a predecessor of q candidates
-unfoldable pub recordAt : ℕ → ℕ → List ℕ → Record
-recordAt q n ws = cond (wellRead recordOf readRow (rowOk q n) ws) (Whole (length (recordOf (readRow ws))) (rowSize (readRow ws)) (scores (readRow ws))) Bad
+-- what the row reader finds: the record of row number n on a predecessor of q candidates, whose record starts at `place`
+unfoldable pub recordAt : ℕ → ℕ → ℕ → List ℕ → Record
+recordAt place q n ws =
+    cond (wellRead (recordOf place) readRow (rowOk q n) ws) (Whole (length (recordOf place (readRow ws))) (rowSize (readRow ws)) (scores (readRow ws))) Bad
 
 -- ---- the journal
 
@@ -47,6 +50,11 @@ latestOf (r ∷ rs) = cond (scores r) (At (suc (length (words rs))) (length rs) 
 abbrev pub candidatesOf : Predecessor → ℕ
 candidatesOf Nothing = 0
 candidatesOf (At place row candidates) = candidates
+
+-- where its record starts, 0 without one
+abbrev pub placeOf : Predecessor → ℕ
+placeOf Nothing = 0
+placeOf (At place row candidates) = place
 
 abbrev pub surveyOf : ℕ → Option (List Row) → Survey
 surveyOf n none = NotWellFormed
