@@ -10,8 +10,8 @@ use lib.ListN.{length, getD, drop, set, length-append, length-drop}
 use lib.Seq.{drop-cons, getD-at}
 use Rattle.journal.specs.Lists.{flat}
 use Rattle.journal.specs.Row.{Row, rowSize}
-use Rattle.journal.specs.Record.{headWord, lengthWord, usedWord, cellWords, distancesWords, recordLength, recordOf}
-use Rattle.journal.specs.Journal.{words, journal, used, readJournal}
+use Rattle.journal.specs.Record.{headWord, lengthWord, predecessorWord, usedWord, cellWords, distancesWords, recordLength, recordOf}
+use Rattle.journal.specs.Journal.{words, predecessorPlace, recordOn, journal, used, readJournal}
 use Rattle.journal.specs.WellFormed.{RowFits, Obey, WellFormed as Formed}
 use Rattle.journal.specs.inner.Check.{latestOf, surveyOf, survey}
 use Rattle.journal.specs.Call.{recounted, striking}
@@ -25,29 +25,32 @@ use Rattle.journal.proofs.WellFormed.{well-formed, used-well}
 
 -- ---- the last word of a record
 
-front : Row → List ℕ
-front r = headWord (rowSize r) (r .before) ∷ (flat cellWords (r .cells) ++ distancesWords (r .distances))
+front : ℕ → Row → List ℕ
+front place r = headWord (rowSize r) (r .before) ∷ predecessorWord place ∷ (flat cellWords (r .cells) ++ distancesWords (r .distances))
 
-record-ends : (r : Row) → recordOf r ≡ front r ++ (lengthWord (recordLength (rowSize r) (r .before)) ∷ [])
+record-ends : (place : ℕ) (r : Row) → recordOf place r ≡ front place r ++ (lengthWord (recordLength (rowSize r) (r .before)) ∷ [])
 unfolding recordOf front
-record-ends r = ap (λ (l : List ℕ). headWord (rowSize r) (r .before) ∷ l) (sym (append-assoc (flat cellWords (r .cells)) (distancesWords (r .distances)) (lengthWord (recordLength (rowSize r) (r .before)) ∷ [])))
+record-ends place r = ap (λ (l : List ℕ). headWord (rowSize r) (r .before) ∷ predecessorWord place ∷ l) (sym (append-assoc (flat cellWords (r .cells)) (distancesWords (r .distances)) (lengthWord (recordLength (rowSize r) (r .before)) ∷ [])))
 
 -- stands before what follows the record
-last-at : (r : Row) (w : ℕ) (xs ys : List ℕ) → RowFits r → getD (w ∷ ((xs ++ recordOf r) ++ ys)) (length (xs ++ recordOf r)) 0 ≡ lengthWord (length (recordOf r))
-last-at r w xs ys f =
+last-at : (place : ℕ) (r : Row) (w : ℕ) (xs ys : List ℕ) → RowFits r
+    → getD (w ∷ ((xs ++ recordOf place r) ++ ys)) (length (xs ++ recordOf place r)) 0 ≡ lengthWord (length (recordOf place r))
+last-at place r w xs ys f =
     let l = lengthWord (recordLength (rowSize r) (r .before)) in
-    let same : w ∷ ((xs ++ recordOf r) ++ ys) ≡ (w ∷ (xs ++ front r)) ++ (l ∷ ys) = rw (record-ends r, ← append-assoc xs (front r) (l ∷ []), append-assoc (xs ++ front r) (l ∷ []) ys) in
-    let long : length (w ∷ (xs ++ front r)) ≡ length (xs ++ recordOf r) = rw (record-ends r) (simp length-append (omega arith)) in
-    ap (λ (z : List ℕ). getD z (length (xs ++ recordOf r)) 0) same
-    ∙ getD-at (w ∷ (xs ++ front r)) l ys 0 (length (xs ++ recordOf r)) long
-    ∙ ap lengthWord (sym (length-record r (f .number)))
+    let whole = recordOf place r in
+    let most = front place r in
+    let same : w ∷ ((xs ++ whole) ++ ys) ≡ (w ∷ (xs ++ most)) ++ (l ∷ ys) = rw (record-ends place r, ← append-assoc xs most (l ∷ []), append-assoc (xs ++ most) (l ∷ []) ys) in
+    let long : length (w ∷ (xs ++ most)) ≡ length (xs ++ whole) = rw (record-ends place r) (simp length-append (omega arith)) in
+    ap (λ (z : List ℕ). getD z (length (xs ++ whole)) 0) same
+    ∙ getD-at (w ∷ (xs ++ most)) l ys 0 (length (xs ++ whole)) long
+    ∙ ap lengthWord (sym (length-record place r (f .number)))
 
 -- ---- back over the last rows
 
 noRow : Row
 noRow = record { cells = []; before = 0; distances = [] }
 
-pub words-cons : (r : Row) (rs : List Row) → words (r ∷ rs) ≡ words rs ++ recordOf r
+pub words-cons : (r : Row) (rs : List Row) → words (r ∷ rs) ≡ words rs ++ recordOn rs r
 unfolding words
 words-cons r rs = refl
 
@@ -72,19 +75,20 @@ module _ (s : List ℕ) (rs : List Row) (e : readJournal s ≡ some rs) where
   some-words = omega (arith, ap length (formed .2 .1), length-append (journal rs) (formed .2 .0), length-journal rs)
 
   one-back : (k : ℕ) (q : Row) (qs : List Row) → drop k rs ≡ q ∷ qs
-      → (back s (suc (length (words (drop k rs)))) ≡ length (recordOf q)) × (suc (length (words (drop k rs))) ≡ suc (length (words qs)) + length (recordOf q)) × (suc (length (words (drop k rs))) ≤ length s)
+      → (back s (suc (length (words (drop k rs)))) ≡ length (recordOn qs q)) × (suc (length (words (drop k rs))) ≡ suc (length (words qs)) + length (recordOn qs q)) × (suc (length (words (drop k rs))) ≤ length s)
   one-back k q qs d =
       let more = words-drop k rs in
       let o : Obey (q ∷ qs) = subst Obey d (obey-drop k rs (formed .0)) in
-      let xs = words qs ++ recordOf q in
+      let own = recordOn qs q in
+      let xs = words qs ++ own in
       let parts : words (drop k rs) ≡ xs = ap words d ∙ words-cons q qs in
       let whole : s ≡ usedWord (suc (length (words rs))) ∷ (xs ++ (more .0 ++ formed .2 .0)) = formed .2 .1 ∙ journal-split rs xs (more .0) (formed .2 .0) (more .1 ∙ ap (λ (l : List ℕ). l ++ more .0) parts) in
       let place : suc (length (words (drop k rs))) - 1 ≡ length xs = omega (arith, ap length parts) in
-      let word : getD s (suc (length (words (drop k rs))) - 1) 0 ≡ lengthWord (length (recordOf q))
-      = ap (λ (n : ℕ). getD s n 0) place ∙ ap (λ (l : List ℕ). getD l (length xs) 0) whole ∙ last-at q (usedWord (suc (length (words rs)))) (words qs) (more .0 ++ formed .2 .0) (o .0 .0) in
-      let small = record-small q (o .0 .0) in
+      let word : getD s (suc (length (words (drop k rs))) - 1) 0 ≡ lengthWord (length own)
+      = ap (λ (n : ℕ). getD s n 0) place ∙ ap (λ (l : List ℕ). getD l (length xs) 0) whole ∙ last-at (predecessorPlace qs) q (usedWord (suc (length (words rs)))) (words qs) (more .0 ++ formed .2 .0) (o .0 .0) in
+      let small = record-small (predecessorPlace qs) q (o .0 .0) in
       let long : length s ≡ suc (length xs + length (more .0 ++ formed .2 .0)) = ap length whole ∙ ap suc (length-append xs (more .0 ++ formed .2 .0)) in
-      (omega arith, omega (arith, ap length parts, length-append (words qs) (recordOf q)), omega (arith, ap length parts))
+      (omega arith, omega (arith, ap length parts, length-append (words qs) own), omega (arith, ap length parts))
 
 -- n rows to go back over, k of them done, at this place
 pub record Ended (s : List ℕ) (n k at : ℕ) : Type 0 where
@@ -98,9 +102,12 @@ module _ (s : List ℕ) (n k at : ℕ) (d : Ended s n k at) (more : k < n) where
   split : drop k (d .stand .rows) ≡ getD (d .stand .rows) k noRow ∷ drop (suc k) (d .stand .rows)
   split = drop-cons (d .stand .rows) k noRow (omega (arith, d .stand .enough))
 
-  stepped : (back s at ≡ length (recordOf (getD (d .stand .rows) k noRow))) × (at ≡ suc (length (words (drop (suc k) (d .stand .rows)))) + length (recordOf (getD (d .stand .rows) k noRow))) × (at ≤ length s)
+  abbrev long : ℕ
+  long = length (recordOn (drop (suc k) (d .stand .rows)) (getD (d .stand .rows) k noRow))
+
+  stepped : (back s at ≡ long) × (at ≡ suc (length (words (drop (suc k) (d .stand .rows)))) + long) × (at ≤ length s)
   stepped =
-      subst (λ (a : ℕ). (back s a ≡ length (recordOf (getD (d .stand .rows) k noRow))) × (a ≡ suc (length (words (drop (suc k) (d .stand .rows)))) + length (recordOf (getD (d .stand .rows) k noRow))) × (a ≤ length s)) (sym (d .placed))
+      subst (λ (a : ℕ). (back s a ≡ long) × (a ≡ suc (length (words (drop (suc k) (d .stand .rows)))) + long) × (a ≤ length s)) (sym (d .placed))
       (one-back s (d .stand .rows) (d .stand .reads) k (getD (d .stand .rows) k noRow) (drop (suc k) (d .stand .rows)) split)
 
   pub ended-room : (1 ≤ at) × (at ≤ length s) × (back s at ≤ at)

@@ -8,8 +8,8 @@ use mathlib.Core.Option.{none, some}
 use lib.ListN.{length, drop, length-append}
 use lib.Seq.{drop-at}
 use Rattle.journal.specs.Row.{Row, rowSize, scores, predecessor}
-use Rattle.journal.specs.Record.{usedWord, recordOf, readRow}
-use Rattle.journal.specs.Journal.{words, readJournal}
+use Rattle.journal.specs.Record.{usedWord, readRow}
+use Rattle.journal.specs.Journal.{words, predecessorPlace, recordOn, readJournal}
 use Rattle.journal.specs.WellFormed.{Obey}
 use Rattle.journal.specs.inner.Check.{latestOf}
 use Rattle.journal.specs.declared.check.Predecessor.the-variants.{Nothing, At}
@@ -23,24 +23,25 @@ module _ (s : List ℕ) (rs : List Row) (e : readJournal s ≡ some rs) (k : ℕ
   pub row-obeys : Obey (q ∷ qs)
   row-obeys = subst Obey d (obey-drop k rs (formed s rs e .0))
 
-  split-at : (more : List ℕ) × (drop (suc (length (words qs))) s ≡ recordOf q ++ more)
+  split-at : (more : List ℕ) × (drop (suc (length (words qs))) s ≡ recordOn qs q ++ more)
   split-at =
       let more = words-drop k rs in
       let rest = formed s rs e .2 .0 in
+      let own = recordOn qs q in
       let w = usedWord (suc (length (words rs))) in
-      let whole : s ≡ (w ∷ words qs) ++ (recordOf q ++ (more .0 ++ rest))
-      = formed s rs e .2 .1 ∙ journal-split rs (words qs ++ recordOf q) (more .0) rest (more .1 ∙ ap (λ (l : List ℕ). l ++ more .0) (ap words d ∙ words-cons q qs))
-      ∙ ap (λ (l : List ℕ). w ∷ l) (append-assoc (words qs) (recordOf q) (more .0 ++ rest)) in
-      (more .0 ++ rest, ap (drop (suc (length (words qs)))) whole ∙ drop-at (w ∷ words qs) (recordOf q ++ (more .0 ++ rest)) (suc (length (words qs))) refl)
+      let whole : s ≡ (w ∷ words qs) ++ (own ++ (more .0 ++ rest))
+      = formed s rs e .2 .1 ∙ journal-split rs (words qs ++ own) (more .0) rest (more .1 ∙ ap (λ (l : List ℕ). l ++ more .0) (ap words d ∙ words-cons q qs))
+      ∙ ap (λ (l : List ℕ). w ∷ l) (append-assoc (words qs) own (more .0 ++ rest)) in
+      (more .0 ++ rest, ap (drop (suc (length (words qs)))) whole ∙ drop-at (w ∷ words qs) (own ++ (more .0 ++ rest)) (suc (length (words qs))) refl)
 
   -- its record starts past the words of those before it
   pub row-at : readRow (drop (suc (length (words qs))) s) ≡ q
-  row-at = ap readRow (split-at .1) ∙ read-row q (row-obeys .0 .0) (split-at .0)
+  row-at = ap readRow (split-at .1) ∙ read-row (predecessorPlace qs) q (row-obeys .0 .0) (split-at .0)
 
-  pub row-inside : suc (length (words qs)) + length (recordOf q) ≤ length s
+  pub row-inside : suc (length (words qs)) + length (recordOn qs q) ≤ length s
   row-inside =
       let more = words-drop k rs in
-      let long = ap length (formed s rs e .2 .1 ∙ journal-split rs (words qs ++ recordOf q) (more .0) (formed s rs e .2 .0) (more .1 ∙ ap (λ (l : List ℕ). l ++ more .0) (ap words d ∙ words-cons q qs))) in
+      let long = ap length (formed s rs e .2 .1 ∙ journal-split rs (words qs ++ recordOn qs q) (more .0) (formed s rs e .2 .0) (more .1 ∙ ap (λ (l : List ℕ). l ++ more .0) (ap words d ∙ words-cons q qs))) in
       omega (arith, simp length-append at long)
 
 -- ---- the predecessor

@@ -15,8 +15,8 @@ use lib.Ieee.Fits.{and-i, eq→eqb}
 use Rattle.journal.specs.Lists.{flat, starts}
 use Rattle.journal.specs.Row.{Cell, Row, rowSize, scores, predecessor, sizeOf, beforeOf}
 use Rattle.journal.specs.Ranges.{candidateLimit, rowLimit}
-use Rattle.journal.specs.Record.{headWord, candidateWord, distancesWord, lengthWord, usedWord, highHalf, lowHalf, cellWords, floatWords, recordLength, recordOf, readFloat, readCell, readDistance, readEach, headCount, headBefore, readRow}
-use Rattle.journal.specs.Journal.{words, journal, rowOk, recordOk, readRows, used, usedWords, readJournal}
+use Rattle.journal.specs.Record.{headWord, candidateWord, distancesWord, lengthWord, predecessorWord, usedWord, highHalf, lowHalf, cellWords, floatWords, recordLength, recordOf, readFloat, readCell, readDistance, readEach, headCount, headBefore, readRow}
+use Rattle.journal.specs.Journal.{words, predecessorPlace, recordOn, journal, rowOk, recordOk, readRows, used, usedWords, readJournal}
 use Rattle.journal.specs.WellFormed.{Each, Fitting, CellFits, RowFits, Obey}
 use Rattle.journal.proofs.Lists.{cond-true, some-none, each-append, length-flat, starts-self}
 
@@ -76,22 +76,22 @@ pub length-floats : (xs : List Float) → length (flat floatWords xs) ≡ 2 * le
 length-floats xs = length-flat 2 floatWords (λ x. refl) xs
 
 -- document 01's record length is the number of its words
-pub length-record : (r : Row) → length (r .distances) ≡ rowSize r * r .before → length (recordOf r) ≡ recordLength (rowSize r) (r .before)
+pub length-record : (place : ℕ) (r : Row) → length (r .distances) ≡ rowSize r * r .before → length (recordOf place r) ≡ recordLength (rowSize r) (r .before)
 unfolding recordOf recordLength
-length-record r h = simp length-append (omega (arith, length-cells (r .cells), length-floats (r .distances)))
+length-record place r h = simp length-append (omega (arith, length-cells (r .cells), length-floats (r .distances)))
 
-pub record-small : (r : Row) → RowFits r → length (recordOf r) ≤ 627
+pub record-small : (place : ℕ) (r : Row) → RowFits r → length (recordOf place r) ≤ 628
 unfolding recordLength
-record-small r h = omega (arith, length-record r (h .number), mul-le-mul (h .few) (h .few-before))
+record-small place r h = omega (arith, length-record place r (h .number), mul-le-mul (h .few) (h .few-before))
 
 -- ---- a record
 
-parts : (w : ℕ) (body : List ℕ) (c p : ℕ) → headCount w ≡ c → headBefore w ≡ p
-    → readRow (w ∷ body) ≡ record { cells = readEach readCell 7 c body; before = p; distances = readEach readDistance 2 (c * p) (drop 1 (drop (7 * c) body)) }
+parts : (w v : ℕ) (body : List ℕ) (c p : ℕ) → headCount w ≡ c → headBefore w ≡ p
+    → readRow (w ∷ v ∷ body) ≡ record { cells = readEach readCell 7 c body; before = p; distances = readEach readDistance 2 (c * p) (drop 1 (drop (7 * c) body)) }
 unfolding readRow
-parts w body c p e f = rw (e, f)
+parts w v body c p e f = rw (e, f)
 
-module _ (r : Row) (h : RowFits r) (ws : List ℕ) where
+module _ (place : ℕ) (r : Row) (h : RowFits r) (ws : List ℕ) where
   end : List ℕ
   end = lengthWord (recordLength (rowSize r) (r .before)) ∷ []
 
@@ -100,17 +100,17 @@ module _ (r : Row) (h : RowFits r) (ws : List ℕ) where
   unfolding end
   past = distancesWord (length (r .distances)) ∷ (flat floatWords (r .distances) ++ (end ++ ws))
 
-  body-is : recordOf r ++ ws ≡ headWord (rowSize r) (r .before) ∷ (flat cellWords (r .cells) ++ past)
+  body-is : recordOf place r ++ ws ≡ headWord (rowSize r) (r .before) ∷ predecessorWord place ∷ (flat cellWords (r .cells) ++ past)
   unfolding recordOf past end
   body-is = rw (
     append-assoc (flat cellWords (r .cells)) (distancesWord (length (r .distances)) ∷ (flat floatWords (r .distances) ++ end)) ws,
     append-assoc (flat floatWords (r .distances)) end ws,
   )
 
-  pub read-row : readRow (recordOf r ++ ws) ≡ r
+  pub read-row : readRow (recordOf place r ++ ws) ≡ r
   read-row =
       ap (λ (l : List ℕ). readRow l) body-is
-      ∙ parts (headWord (rowSize r) (r .before)) (flat cellWords (r .cells) ++ past) (rowSize r) (r .before) (word-count (rowSize r) (r .before) (h .few) (h .few-before)) (word-before (rowSize r) (r .before) (h .few) (h .few-before))
+      ∙ parts (headWord (rowSize r) (r .before)) (predecessorWord place) (flat cellWords (r .cells) ++ past) (rowSize r) (r .before) (word-count (rowSize r) (r .before) (h .few) (h .few-before)) (word-before (rowSize r) (r .before) (h .few) (h .few-before))
       ∙ rw (read-cells (r .cells) past (h .cells), drop-at (flat cellWords (r .cells)) past (7 * rowSize r) (length-cells (r .cells)), ← h .number)
       (ap (λ (l : List Float). back l) (unfold past in read-floats (r .distances) (end ++ ws) (h .distances)))
     where
@@ -140,31 +140,32 @@ before-small q c h = go (eqb c 0)
     go false = h
 
 pub read-at : (n : ℕ) (rs : List Row) (r : Row) (xs : List ℕ) → 0 < length xs → readRow xs ≡ r → T (recordOk rs r xs)
-    → readRows (suc n) rs xs ≡ readRows n (r ∷ rs) (drop (length (recordOf r)) xs)
+    → readRows (suc n) rs xs ≡ readRows n (r ∷ rs) (drop (length (recordOn rs r)) xs)
 unfolding readRows
 read-at n rs r [] l e ok = absurd (omega arith)
 read-at n rs r (w ∷ ws) l e ok =
-    ap (λ (x : Row). look x) e ∙ cond-true (recordOk rs r (w ∷ ws)) (readRows n (r ∷ rs) (drop (length (recordOf r)) (w ∷ ws))) none ok
+    ap (λ (x : Row). look x) e ∙ cond-true (recordOk rs r (w ∷ ws)) (readRows n (r ∷ rs) (drop (length (recordOn rs r)) (w ∷ ws))) none ok
   where
     look : Row → Option (List Row)
-    look x = cond (recordOk rs x (w ∷ ws)) (readRows n (x ∷ rs) (drop (length (recordOf x)) (w ∷ ws))) none
+    look x = cond (recordOk rs x (w ∷ ws)) (readRows n (x ∷ rs) (drop (length (recordOn rs x)) (w ∷ ws))) none
 
-record-some : (r : Row) (ws : List ℕ) → 0 < length (recordOf r ++ ws)
+record-some : (place : ℕ) (r : Row) (ws : List ℕ) → 0 < length (recordOf place r ++ ws)
 unfolding recordOf
-record-some r ws = omega arith
+record-some place r ws = omega arith
 
-read-one : (n : ℕ) (rs : List Row) (r : Row) (ws : List ℕ) → RowFits r → T (rowOk (sizeOf (predecessor rs)) (length rs) r) → readRows (suc n) rs (recordOf r ++ ws) ≡ readRows n (r ∷ rs) ws
+read-one : (n : ℕ) (rs : List Row) (r : Row) (ws : List ℕ) → RowFits r → T (rowOk (sizeOf (predecessor rs)) (length rs) r) → readRows (suc n) rs (recordOn rs r ++ ws) ≡ readRows n (r ∷ rs) ws
 read-one n rs r ws h ok =
-    read-at n rs r (recordOf r ++ ws) (record-some r ws) (read-row r h ws)
-    (and-i (starts (recordOf r) (recordOf r ++ ws)) (rowOk (sizeOf (predecessor rs)) (length rs) r) (starts-self (recordOf r) ws) ok)
-    ∙ ap (λ (l : List ℕ). readRows n (r ∷ rs) l) (drop-append-seam (recordOf r) ws)
+    let own = recordOn rs r in
+    read-at n rs r (own ++ ws) (record-some (predecessorPlace rs) r ws) (read-row (predecessorPlace rs) r h ws)
+    (and-i (starts own (own ++ ws)) (rowOk (sizeOf (predecessor rs)) (length rs) r) (starts-self own ws) ok)
+    ∙ ap (λ (l : List ℕ). readRows n (r ∷ rs) l) (drop-append-seam own ws)
 
 read-more : (n : ℕ) (rs : List Row) (ws : List ℕ) → Obey rs → readRows (length rs + n) [] (words rs ++ ws) ≡ readRows n rs ws
 unfolding words
 read-more n [] ws h = ap (λ (m : ℕ). readRows m [] ws) (zero-add n)
 read-more n (r ∷ rs) ws h =
-    rw (append-assoc (words rs) (recordOf r) ws, plus)
-    (read-more (suc n) rs (recordOf r ++ ws) (h .1) ∙ read-one n rs r ws (h .0 .0) (h .0 .1))
+    rw (append-assoc (words rs) (recordOn rs r) ws, plus)
+    (read-more (suc n) rs (recordOn rs r ++ ws) (h .1) ∙ read-one n rs r ws (h .0 .0) (h .0 .1))
   where
     plus : suc (length rs) + n ≡ length rs + suc n
     plus = omega arith
@@ -183,10 +184,10 @@ read-words rs h l =
 
 -- ---- the journal
 
-pub words-small : (rs : List Row) → Obey rs → length (words rs) ≤ 627 * length rs
+pub words-small : (rs : List Row) → Obey rs → length (words rs) ≤ 628 * length rs
 unfolding words
 words-small [] h = omega arith
-words-small (r ∷ rs) h = simp length-append (omega (arith, words-small rs (h .1), record-small r (h .0 .0)))
+words-small (r ∷ rs) h = simp length-append (omega (arith, words-small rs (h .1), record-small (predecessorPlace rs) r (h .0 .0)))
 
 -- the words of the rows left after a strike come first
 pub words-drop : (n : ℕ) (rs : List Row) → (more : List ℕ) × (words rs ≡ words (drop n rs) ++ more)
@@ -195,7 +196,8 @@ words-drop zero rs = ([], sym (append-nil (words rs)))
 words-drop (suc n) [] = ([], refl)
 words-drop (suc n) (r ∷ rs) =
     let ih = words-drop n rs in
-    (ih .0 ++ recordOf r, ap (λ (l : List ℕ). l ++ recordOf r) (ih .1) ∙ append-assoc (words (drop n rs)) (ih .0) (recordOf r))
+    let own = recordOn rs r in
+    (ih .0 ++ own, ap (λ (l : List ℕ). l ++ own) (ih .1) ∙ append-assoc (words (drop n rs)) (ih .0) own)
 
 pub length-journal : (rs : List Row) → length (journal rs) ≡ suc (length (words rs))
 unfolding journal
@@ -255,15 +257,19 @@ floats-words : (xs : List Float) → Each Fitting xs → Each Word (flat floatWo
 floats-words [] h = tt
 floats-words (x ∷ xs) h = (float-words x (h .0) .0, (float-words x (h .0) .1, floats-words xs (h .1)))
 
-pub record-words : (r : Row) → RowFits r → Each Word (recordOf r)
+pub record-words : (place : ℕ) (r : Row) → place < 268435456 → RowFits r → Each Word (recordOf place r)
 unfolding recordOf recordLength
-record-words r h =
+record-words place r l h =
     let product = mul-le-mul (h .few) (h .few-before) in
     let head : Word (headWord (rowSize r) (r .before)) = omega (arith, h .few, h .few-before) in
+    let predecessor : Word (predecessorWord place) = omega arith in
     let middle : Word (distancesWord (length (r .distances))) = omega (arith, h .number, product) in
     let last : Word (lengthWord (recordLength (rowSize r) (r .before))) = omega (arith, h .few, product) in (
       head,
-      each-append Word (flat cellWords (r .cells)) (distancesWord (length (r .distances)) ∷ (flat floatWords (r .distances) ++ (lengthWord (recordLength (rowSize r) (r .before)) ∷ [])))
-          (cells-words (r .cells) (h .cells))
-          (middle, each-append Word (flat floatWords (r .distances)) (lengthWord (recordLength (rowSize r) (r .before)) ∷ []) (floats-words (r .distances) (h .distances)) (last, tt)),
+      (
+        predecessor,
+        each-append Word (flat cellWords (r .cells)) (distancesWord (length (r .distances)) ∷ (flat floatWords (r .distances) ++ (lengthWord (recordLength (rowSize r) (r .before)) ∷ [])))
+            (cells-words (r .cells) (h .cells))
+            (middle, each-append Word (flat floatWords (r .distances)) (lengthWord (recordLength (rowSize r) (r .before)) ∷ []) (floats-words (r .distances) (h .distances)) (last, tt)),
+      ),
     )

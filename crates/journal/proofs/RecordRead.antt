@@ -13,7 +13,7 @@ use Rattle.lists.specs.Loops.{anyBelow}
 use Rattle.lists.proofs.Loops.{any-same}
 use Rattle.journal.specs.Row.{Cell, Row, noCell, rowSize, cellOf, scoreOf, scores, beforeOf}
 use Rattle.journal.specs.Ranges.{candidateLimit}
-use Rattle.journal.specs.Record.{recordLength, recordOf, floatAt, readCell, readDistance, headCount, headBefore, readRow}
+use Rattle.journal.specs.Record.{headWords, recordLength, recordOf, floatAt, readCell, readDistance, headCount, headBefore, readRow}
 use Rattle.journal.specs.Journal.{rowOk}
 use Rattle.journal.specs.inner.Check.{wellRead, bodyReads, recordAt}
 use Rattle.journal.specs.declared.read.Record.{Record}
@@ -26,32 +26,30 @@ use Rattle.journal.proofs.Records.{length-each, getD-each, rowAt, row-i
 
 pub row-size : (ws : List ℕ) → rowSize (readRow ws) ≡ headCount (getD ws 0 0)
 unfolding readRow
-row-size ws = length-each readCell 7 (headCount (getD ws 0 0)) (drop 1 ws)
+row-size ws = length-each readCell 7 (headCount (getD ws 0 0)) (drop headWords ws)
 
-pub row-cell : (ws : List ℕ) (k : ℕ) → k < rowSize (readRow ws) → cellOf (readRow ws) k ≡ readCell (drop (1 + 7 * k) ws)
+pub row-cell : (ws : List ℕ) (k : ℕ) → k < rowSize (readRow ws) → cellOf (readRow ws) k ≡ readCell (drop (headWords + 7 * k) ws)
 unfolding readRow
 row-cell ws k h =
-    let l : k < headCount (getD ws 0 0) = omega (arith, length-each readCell 7 (headCount (getD ws 0 0)) (drop 1 ws)) in
-    getD-each readCell 7 (headCount (getD ws 0 0)) (drop 1 ws) k noCell l ∙ ap readCell (drop-drop (7 * k) 1 ws)
+    let l : k < headCount (getD ws 0 0) = omega (arith, length-each readCell 7 (headCount (getD ws 0 0)) (drop headWords ws)) in
+    getD-each readCell 7 (headCount (getD ws 0 0)) (drop headWords ws) k noCell l ∙ ap readCell (drop-drop (7 * k) headWords ws)
 
-pub row-score : (ws : List ℕ) (k : ℕ) → k < rowSize (readRow ws) → scoreOf (readRow ws) k ≡ floatAt ws (6 + 7 * k)
-row-score ws k h =
-    let plus : 1 + 7 * k + 5 ≡ 6 + 7 * k = omega arith in
-    ap (λ (c : Cell). c .score) (row-cell ws k h) ∙ drop-float (1 + 7 * k) 5 ws ∙ ap (floatAt ws) plus
+pub row-score : (ws : List ℕ) (k : ℕ) → k < rowSize (readRow ws) → scoreOf (readRow ws) k ≡ floatAt ws (headWords + 7 * k + 5)
+row-score ws k h = ap (λ (c : Cell). c .score) (row-cell ws k h) ∙ drop-float (headWords + 7 * k) 5 ws
 
-pub row-distance : (ws : List ℕ) (d : Float) (k : ℕ) → k < rowSize (readRow ws) * readRow ws .before → getD (readRow ws .distances) k d ≡ floatAt ws (2 + 7 * rowSize (readRow ws) + 2 * k)
+pub row-distance : (ws : List ℕ) (d : Float) (k : ℕ) → k < rowSize (readRow ws) * readRow ws .before → getD (readRow ws .distances) k d ≡ floatAt ws (headWords + 7 * rowSize (readRow ws) + 1 + 2 * k)
 unfolding readRow
 row-distance ws d k h =
     let c = headCount (getD ws 0 0) in
     let p = headBefore (getD ws 0 0) in
     let l : k < c * p = rw (row-size ws) at h in
-    let place : 1 + 7 * c + 1 + 2 * k + 0 ≡ 2 + 7 * rowSize (readRow ws) + 2 * k = omega (arith, row-size ws) in
-    getD-each readDistance 2 (c * p) (drop 1 (drop (7 * c) (drop 1 ws))) k d l
+    let place : headWords + 7 * c + 1 + 2 * k + 0 ≡ headWords + 7 * rowSize (readRow ws) + 1 + 2 * k = omega (arith, row-size ws) in
+    getD-each readDistance 2 (c * p) (drop 1 (drop (7 * c) (drop headWords ws))) k d l
     ∙ ap readDistance (
-    ap (λ (xs : List ℕ). drop (2 * k) (drop 1 xs)) (drop-drop (7 * c) 1 ws)
-    ∙ ap (drop (2 * k)) (drop-drop 1 (1 + 7 * c) ws)
-    ∙ drop-drop (2 * k) (1 + 7 * c + 1) ws)
-    ∙ drop-float (1 + 7 * c + 1 + 2 * k) 0 ws
+    ap (λ (xs : List ℕ). drop (2 * k) (drop 1 xs)) (drop-drop (7 * c) headWords ws)
+    ∙ ap (drop (2 * k)) (drop-drop 1 (headWords + 7 * c) ws)
+    ∙ drop-drop (2 * k) (headWords + 7 * c + 1) ws)
+    ∙ drop-float (headWords + 7 * c + 1 + 2 * k) 0 ws
     ∙ ap (floatAt ws) place
 
 -- ---- what the row reader finds
@@ -60,53 +58,53 @@ cond-and : {A : Type 0} (a b : Bool) (x y : A) → cond (a && b) x y ≡ cond a 
 cond-and true b x y = refl
 cond-and false b x y = refl
 
-pub record-none : (q n : ℕ) (ws : List ℕ) → length ws ≡ 0 → recordAt q n ws ≡ Bad
-record-none q n [] e = unfold recordAt wellRead recordOf in refl
-record-none q n (w ∷ ws) e = absurd (omega arith)
+pub record-none : (place q n : ℕ) (ws : List ℕ) → length ws ≡ 0 → recordAt place q n ws ≡ Bad
+record-none place q n [] e = unfold recordAt wellRead recordOf in refl
+record-none place q n (w ∷ ws) e = absurd (omega arith)
 
 -- its scores
-scores-at : (w : ℕ) (body : List ℕ) → scores (rowAt w body) ≡ anyBelow (headCount w) (λ k. finite (floatAt (w ∷ body) (6 + 7 * k)))
+scores-at : (w : ℕ) (body : List ℕ) → scores (rowAt w body) ≡ anyBelow (headCount w) (λ k. finite (floatAt (w ∷ body) (headWords + 7 * k + 5)))
 unfolding scores readRow
 scores-at w body =
     ap (λ (m : ℕ). anyBelow m (λ i. finite (scoreOf (rowAt w body) i))) (size-is w body)
-    ∙ any-same (headCount w) (λ i. finite (scoreOf (rowAt w body) i)) (λ k. finite (floatAt (w ∷ body) (6 + 7 * k)))
+    ∙ any-same (headCount w) (λ i. finite (scoreOf (rowAt w body) i)) (λ k. finite (floatAt (w ∷ body) (headWords + 7 * k + 5)))
     (λ k h. ap finite (row-score (w ∷ body) k (omega (arith, size-is w body))))
 
-length-at : (w : ℕ) (body : List ℕ) → length (recordOf (rowAt w body)) ≡ recordLength (headCount w) (headBefore w)
-length-at w body =
-    length-record (rowAt w body) (number-is w body ∙ ap (λ (k : ℕ). k * headBefore w) (sym (size-is w body)))
+length-at : (place w : ℕ) (body : List ℕ) → length (recordOf place (rowAt w body)) ≡ recordLength (headCount w) (headBefore w)
+length-at place w body =
+    length-record place (rowAt w body) (number-is w body ∙ ap (λ (k : ℕ). k * headBefore w) (sym (size-is w body)))
     ∙ ap (λ (k : ℕ). recordLength k (headBefore w)) (size-is w body)
 
 abbrev pub found : ℕ → ℕ → List ℕ → Record
-found c p ws = Whole (recordLength c p) c (anyBelow c (λ k. finite (floatAt ws (6 + 7 * k))))
+found c p ws = Whole (recordLength c p) c (anyBelow c (λ k. finite (floatAt ws (headWords + 7 * k + 5))))
 
-found-at : (w : ℕ) (body : List ℕ) → Whole (length (recordOf (rowAt w body))) (rowSize (rowAt w body)) (scores (rowAt w body)) ≡ found (headCount w) (headBefore w) (w ∷ body)
-found-at w body = cc (length-at w body, size-is w body, scores-at w body)
+found-at : (place w : ℕ) (body : List ℕ) → Whole (length (recordOf place (rowAt w body))) (rowSize (rowAt w body)) (scores (rowAt w body)) ≡ found (headCount w) (headBefore w) (w ∷ body)
+found-at place w body = cc (length-at place w body, size-is w body, scores-at w body)
 
 -- test by test
-pub record-at : (q n : ℕ) (ws : List ℕ) → 0 < length ws
-    → recordAt q n ws
+pub record-at : (place q n : ℕ) (ws : List ℕ) → 0 < length ws
+    → recordAt place q n ws
     ≡ cond (eqb (getD ws 0 0 / 1024) 262144)
     (cond (leb (headCount (getD ws 0 0)) candidateLimit)
     (cond (eqb (headBefore (getD ws 0 0)) (beforeOf q (headCount (getD ws 0 0))))
     (cond (leb (recordLength (headCount (getD ws 0 0)) (headBefore (getD ws 0 0))) (length ws))
-    (cond (bodyReads (headCount (getD ws 0 0)) (headBefore (getD ws 0 0)) n ws) (found (headCount (getD ws 0 0)) (headBefore (getD ws 0 0)) ws) Bad)
+    (cond (bodyReads place (headCount (getD ws 0 0)) (headBefore (getD ws 0 0)) n ws) (found (headCount (getD ws 0 0)) (headBefore (getD ws 0 0)) ws) Bad)
     Bad)
     Bad)
     Bad)
     Bad
-record-at q n [] h = absurd (omega arith)
-record-at q n (w ∷ body) h =
+record-at place q n [] h = absurd (omega arith)
+record-at place q n (w ∷ body) h =
     let c = headCount w in
     let p = headBefore w in
     let r = found c p (w ∷ body) in
     let b3 = leb (recordLength c p) (suc (length body)) in
-    let b4 = bodyReads c p n (w ∷ body) in
-    let whole : recordAt q n (w ∷ body) ≡ cond (wellRead recordOf readRow (rowOk q n) (w ∷ body)) (Whole (length (recordOf (readRow (w ∷ body)))) (rowSize (readRow (w ∷ body))) (scores (readRow (w ∷ body)))) Bad = unfold recordAt in refl in
+    let b4 = bodyReads place c p n (w ∷ body) in
+    let whole : recordAt place q n (w ∷ body) ≡ cond (wellRead (recordOf place) readRow (rowOk q n) (w ∷ body)) (Whole (length (recordOf place (readRow (w ∷ body)))) (rowSize (readRow (w ∷ body))) (scores (readRow (w ∷ body)))) Bad = unfold recordAt in refl in
     whole
-    ∙ ap (λ (x : Row). cond (wellRead recordOf readRow (rowOk q n) (w ∷ body)) (Whole (length (recordOf x)) (rowSize x) (scores x)) Bad) (row-is w body)
-    ∙ ap (λ (x : Record). cond (wellRead recordOf readRow (rowOk q n) (w ∷ body)) x Bad) (found-at w body)
-    ∙ ap (λ (b : Bool). cond b r Bad) (record-test q n w body)
+    ∙ ap (λ (x : Row). cond (wellRead (recordOf place) readRow (rowOk q n) (w ∷ body)) (Whole (length (recordOf place x)) (rowSize x) (scores x)) Bad) (row-is w body)
+    ∙ ap (λ (x : Record). cond (wellRead (recordOf place) readRow (rowOk q n) (w ∷ body)) x Bad) (found-at place w body)
+    ∙ ap (λ (b : Bool). cond b r Bad) (record-test place q n w body)
     ∙ cond-and (eqb (w / 1024) 262144) (leb c candidateLimit && (eqb p (beforeOf q c) && (b3 && b4))) r Bad
     ∙ ap (λ (x : Record). cond (eqb (w / 1024) 262144) x Bad)
     (cond-and (leb c candidateLimit) (eqb p (beforeOf q c) && (b3 && b4)) r Bad
@@ -115,11 +113,11 @@ record-at q n (w ∷ body) h =
     ∙ ap (λ (x : Record). cond (eqb p (beforeOf q c)) x Bad) (cond-and b3 b4 r Bad)))
 
 -- by what each test gives
-pub record-by : (q n : ℕ) (ws : List ℕ) (a b d e f : Bool) → 0 < length ws
+pub record-by : (place q n : ℕ) (ws : List ℕ) (a b d e f : Bool) → 0 < length ws
     → eqb (getD ws 0 0 / 1024) 262144 ≡ a
     → leb (headCount (getD ws 0 0)) candidateLimit ≡ b
     → eqb (headBefore (getD ws 0 0)) (beforeOf q (headCount (getD ws 0 0))) ≡ d
     → leb (recordLength (headCount (getD ws 0 0)) (headBefore (getD ws 0 0))) (length ws) ≡ e
-    → bodyReads (headCount (getD ws 0 0)) (headBefore (getD ws 0 0)) n ws ≡ f
-    → cond a (cond b (cond d (cond e (cond f (found (headCount (getD ws 0 0)) (headBefore (getD ws 0 0)) ws) Bad) Bad) Bad) Bad) Bad ≡ recordAt q n ws
-record-by q n ws a b d e f h i j k l m = sym (record-at q n ws h ∙ rw (i, j, k, l, m))
+    → bodyReads place (headCount (getD ws 0 0)) (headBefore (getD ws 0 0)) n ws ≡ f
+    → cond a (cond b (cond d (cond e (cond f (found (headCount (getD ws 0 0)) (headBefore (getD ws 0 0)) ws) Bad) Bad) Bad) Bad) Bad ≡ recordAt place q n ws
+record-by place q n ws a b d e f h i j k l m = sym (record-at place q n ws h ∙ rw (i, j, k, l, m))

@@ -39,6 +39,14 @@ five a b c d e h =
 pub of-five : (a b c d e : Bool) → T a → T b → T c → T d → T e → T (a && (b && (c && (d && e))))
 of-five a b c d e p q r s t = and-i a (b && (c && (d && e))) p (of-four b c d e q r s t)
 
+pub six : (a b c d e f : Bool) → T (a && (b && (c && (d && (e && f))))) → T a × T b × T c × T d × T e × T f
+six a b c d e f h =
+    let k = five b c d e f (and-r a (b && (c && (d && (e && f)))) h) in
+    (and-l a (b && (c && (d && (e && f)))) h, k .0, k .1, k .2, k .3, k .4)
+
+pub of-six : (a b c d e f : Bool) → T a → T b → T c → T d → T e → T f → T (a && (b && (c && (d && (e && f)))))
+of-six a b c d e f p q r s t u = and-i a (b && (c && (d && (e && f)))) p (of-five b c d e f q r s t u)
+
 -- ---- a candidate
 
 pub record CandidateRules (n : ℕ) (c : Candidate) : Type 0 where

@@ -12,7 +12,7 @@ use Rattle.journal.specs.Lists.{flat}
 use Rattle.journal.specs.Row.{Cell, Row, noCandidate, noCell, rowSize}
 use Rattle.journal.specs.inner.Row.{cellsOf, CellWritable}
 use Rattle.journal.specs.declared.record.Candidate.{Candidate}
-use Rattle.journal.specs.Record.{headWord, lengthWord, usedWord, cellWords, distancesWords, recordLength, recordOf}
+use Rattle.journal.specs.Record.{headWord, lengthWord, predecessorWord, usedWord, headWords, cellWords, distancesWords, recordLength, recordOf}
 use Rattle.journal.proofs.Lists.{length-flat, flat-append, length-number, getD-number}
 use Rattle.journal.specs.Journal.{put}
 use Rattle.journal.proofs.Reading.{length-cells, length-floats, length-record}
@@ -53,10 +53,10 @@ stored-turn l i m k part xs d h e =
     let more : flat part (take (k + 1) xs) ≡ flat part (take k xs) ++ part (getD xs k d) = rw (add-one, take-suc xs k d e, flat-append part (take k xs) (getD xs k d ∷ []), append-nil) in
     sym (rw (more, sets-append l i (flat part (take k xs)) (part (getD xs k d)), long))
 
--- a head word, two parts and a last word, stored in turn
-pub four-parts : (l : List ℕ) (h w n m : ℕ) (xs ys : List ℕ) → length xs ≡ n → length ys ≡ m
-    → set (sets (sets (set l 0 h) 1 xs) (1 + n) ys) (1 + n + m) w ≡ sets l 0 (h ∷ (xs ++ (ys ++ (w ∷ []))))
-four-parts l h w n m xs ys e f = rw (← e, ← f, sets-append (set l 0 h) 1 xs (ys ++ (w ∷ [])), sets-append _ _ ys (w ∷ []))
+-- two head words, two parts and a last word, stored in turn
+five-parts : (l : List ℕ) (h g w n m : ℕ) (xs ys : List ℕ) → length xs ≡ n → length ys ≡ m
+    → set (sets (sets (set (set l 0 h) 1 g) 2 xs) (2 + n) ys) (2 + n + m) w ≡ sets l 0 (h ∷ g ∷ (xs ++ (ys ++ (w ∷ []))))
+five-parts l h g w n m xs ys e f = rw (← e, ← f, sets-append (set (set l 0 h) 1 g) 2 xs (ys ++ (w ∷ [])), sets-append _ _ ys (w ∷ []))
 
 -- the cells of a row that is written
 module _ (cs : List Candidate) (parents : List ℕ) (scores : List Float) where
@@ -77,41 +77,41 @@ module _ (cs : List Candidate) (parents : List ℕ) (scores : List Float) where
 
   -- a turn of the loop that stores them
   pub cells-turn : (l old new : List ℕ) (k : ℕ) {c : Candidate} → k < length cs → c ≡ getD cs k noCandidate
-      → old ≡ sets l 1 (flat cellWords (take k (cellsOf cs parents scores)))
-      → new ≡ sets old (1 + 7 * k) (cellWords (cell k c))
-      → new ≡ sets l 1 (flat cellWords (take (k + 1) (cellsOf cs parents scores)))
+      → old ≡ sets l headWords (flat cellWords (take k (cellsOf cs parents scores)))
+      → new ≡ sets old (headWords + 7 * k) (cellWords (cell k c))
+      → new ≡ sets l headWords (flat cellWords (take (k + 1) (cellsOf cs parents scores)))
   cells-turn l old new k {c} h own e f =
       f
-      ∙ ap (λ (ws : List ℕ). sets ws (1 + 7 * k) (cellWords (cell k c))) e
-      ∙ ap (λ (x : Cell). sets (sets l 1 (flat cellWords (take k (cellsOf cs parents scores)))) (1 + 7 * k) (cellWords x)) (ap (cell k) own ∙ sym (cell-at k h))
-      ∙ stored-turn l 1 7 k cellWords (cellsOf cs parents scores) noCell (λ c. refl) (rw cells-many h)
+      ∙ ap (λ (ws : List ℕ). sets ws (headWords + 7 * k) (cellWords (cell k c))) e
+      ∙ ap (λ (x : Cell). sets (sets l headWords (flat cellWords (take k (cellsOf cs parents scores)))) (headWords + 7 * k) (cellWords x)) (ap (cell k) own ∙ sym (cell-at k h))
+      ∙ stored-turn l headWords 7 k cellWords (cellsOf cs parents scores) noCell (λ c. refl) (rw cells-many h)
 
--- head word, cells, distances and record length, stored in turn, are the record
-module _ (l cells whole : List ℕ) (r : Row) (number : length (r .distances) ≡ rowSize r * r .before) where
+-- head word, predecessor's place, cells, distances and record length, stored in turn, are the record
+module _ (l cells whole : List ℕ) (place : ℕ) (r : Row) (number : length (r .distances) ≡ rowSize r * r .before) where
   stored : (len : ℕ) → len ≡ recordLength (rowSize r) (r .before)
-      → cells ≡ sets (set l 0 (headWord (rowSize r) (r .before))) 1 (flat cellWords (r .cells))
-      → whole ≡ sets cells (1 + 7 * rowSize r) (distancesWords (r .distances))
-      → set whole (len - 1) (lengthWord len) ≡ sets l 0 (recordOf r)
+      → cells ≡ sets (set (set l 0 (headWord (rowSize r) (r .before))) 1 (predecessorWord place)) headWords (flat cellWords (r .cells))
+      → whole ≡ sets cells (headWords + 7 * rowSize r) (distancesWords (r .distances))
+      → set whole (len - 1) (lengthWord len) ≡ sets l 0 (recordOf place r)
   unfolding recordOf
   stored len e f h =
-      let at : len - 1 ≡ 1 + 7 * rowSize r + suc (2 * length (r .distances)) = unfold recordLength in omega arith in
+      let at : len - 1 ≡ headWords + 7 * rowSize r + suc (2 * length (r .distances)) = unfold recordLength in omega arith in
       rw (at, h, f, e)
-      (four-parts l (headWord (rowSize r) (r .before)) _ (7 * rowSize r) (suc (2 * length (r .distances))) (flat cellWords (r .cells)) (distancesWords (r .distances)) (length-cells (r .cells)) (ap suc (length-floats (r .distances))))
+      (five-parts l (headWord (rowSize r) (r .before)) (predecessorWord place) _ (7 * rowSize r) (suc (2 * length (r .distances))) (flat cellWords (r .cells)) (distancesWords (r .distances)) (length-cells (r .cells)) (ap suc (length-floats (r .distances))))
 
   -- the cells are counted elsewhere
   pub row-stored : (n : ℕ) → rowSize r ≡ n → (len : ℕ) → len ≡ recordLength n (r .before)
-      → cells ≡ sets (set l 0 (headWord n (r .before))) 1 (flat cellWords (r .cells))
-      → whole ≡ sets cells (1 + 7 * n) (distancesWords (r .distances))
-      → set whole (len - 1) (lengthWord len) ≡ sets l 0 (recordOf r)
+      → cells ≡ sets (set (set l 0 (headWord n (r .before))) 1 (predecessorWord place)) headWords (flat cellWords (r .cells))
+      → whole ≡ sets cells (headWords + 7 * n) (distancesWords (r .distances))
+      → set whole (len - 1) (lengthWord len) ≡ sets l 0 (recordOf place r)
   row-stored n e = rw (← e) stored
 
-pub row-length : (r : Row) (n : ℕ) → length (r .distances) ≡ rowSize r * r .before → rowSize r ≡ n → length (recordOf r) ≡ recordLength n (r .before)
-row-length r n number e = rw (← e) (length-record r number)
+pub row-length : (place : ℕ) (r : Row) (n : ℕ) → length (r .distances) ≡ rowSize r * r .before → rowSize r ≡ n → length (recordOf place r) ≡ recordLength n (r .before)
+row-length place r n number e = rw (← e) (length-record place r number)
 
 -- a record stored by a callee that was lent `&mut s[n..]`, and then word 0
-pub row-put : (s part : List ℕ) (n l : ℕ) (r : Row) → n ≤ length s → part ≡ sets (take (length s - n) (drop n s)) 0 (recordOf r) → l ≡ length (recordOf r)
-    → set (take n s ++ (part ++ drop (length s - n) (drop n s))) 0 (usedWord (n + l)) ≡ put s n r
+pub row-put : (s part own : List ℕ) (n l : ℕ) → n ≤ length s → part ≡ sets (take (length s - n) (drop n s)) 0 own → l ≡ length own
+    → set (take n s ++ (part ++ drop (length s - n) (drop n s))) 0 (usedWord (n + l)) ≡ put s n own
 unfolding put
-row-put s part n l r h e f =
-    let stored : take n s ++ (part ++ drop (length s - n) (drop n s)) ≡ sets s n (recordOf r) = ap (λ (ws : List ℕ). take n s ++ (ws ++ drop (length s - n) (drop n s))) e ∙ lent-sets n s (recordOf r) h in
-    ap (λ (ws : List ℕ). set ws 0 (usedWord (n + l))) stored ∙ ap (λ (k : ℕ). set (sets s n (recordOf r)) 0 (usedWord (n + k))) f
+row-put s part own n l h e f =
+    let stored : take n s ++ (part ++ drop (length s - n) (drop n s)) ≡ sets s n own = ap (λ (ws : List ℕ). take n s ++ (ws ++ drop (length s - n) (drop n s))) e ∙ lent-sets n s own h in
+    ap (λ (ws : List ℕ). set ws 0 (usedWord (n + l))) stored ∙ ap (λ (k : ℕ). set (sets s n own) 0 (usedWord (n + k))) f

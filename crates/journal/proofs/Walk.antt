@@ -7,7 +7,7 @@ use mathlib.Core.Bool.{Bool, true, false, _&&_, cond}
 use mathlib.Core.List.{List, [], _∷_}
 use mathlib.Core.Option.{Option, none, some}
 use lib.Dec.{T, eqb, leb, eqb→eq}
-use lib.ListN.{length, getD, drop, length-append, length-drop, drop-of-length-le}
+use lib.ListN.{length, getD, take, drop, length-append, length-drop, drop-of-length-le}
 use lib.Seq.{drop-drop}
 use lib.Ieee.Fits.{and-l, eq→eqb}
 use Rattle.binary64.proofs.Order.{taken, same-test}
@@ -15,14 +15,15 @@ use Rattle.journal.specs.Lists.{starts}
 use Rattle.journal.specs.Row.{Row, rowSize, scores, predecessor, sizeOf}
 use Rattle.journal.specs.Ranges.{rowLimit}
 use Rattle.journal.specs.Record.{usedWord, recordOf, readRow}
-use Rattle.journal.specs.Journal.{words, rowOk, recordOk, readRows, used, usedWords, readJournal}
-use Rattle.journal.specs.inner.Check.{wellRead, recordAt, latestOf, candidatesOf, surveyOf, survey}
+use Rattle.journal.specs.Journal.{words, predecessorPlace, recordOn, rowOk, recordOk, readRows, used, usedWords, readJournal}
+use Rattle.journal.specs.inner.Check.{wellRead, recordAt, latestOf, candidatesOf, placeOf, surveyOf, survey}
 use Rattle.journal.specs.declared.read.Record.the-variants.{Bad, Whole}
 use Rattle.journal.specs.declared.check.Predecessor.{Predecessor}
 use Rattle.journal.specs.declared.check.Predecessor.the-variants.{Nothing, At}
 use Rattle.journal.specs.declared.check.Survey.the-variants.{NotWellFormed, WellFormed}
 use Rattle.journal.proofs.Lists.{starts-split}
 use Rattle.journal.proofs.Reading.{read-at, read-end}
+use Rattle.journal.proofs.Stores.{take-rest}
 
 -- ---- the predecessor
 
@@ -35,6 +36,29 @@ latest-size (r ∷ rs) = go (scores r) (latest-size rs)
         → candidatesOf (cond b (At (suc (length (words rs))) (length rs) (rowSize r)) (latestOf rs)) ≡ sizeOf (cond b (some r) (predecessor rs))
     go true ih = refl
     go false ih = ih
+
+latest-place : (rs : List Row) → placeOf (latestOf rs) ≡ predecessorPlace rs
+unfolding latestOf predecessorPlace
+latest-place [] = refl
+latest-place (r ∷ rs) = go (scores r) (latest-place rs)
+  where
+    go : (b : Bool) → placeOf (latestOf rs) ≡ predecessorPlace rs
+        → placeOf (cond b (At (suc (length (words rs))) (length rs) (rowSize r)) (latestOf rs)) ≡ cond b (suc (length (words rs))) (predecessorPlace rs)
+    go true ih = refl
+    go false ih = ih
+
+-- it stands among the words
+pub place-inside : (rs : List Row) → predecessorPlace rs ≤ length (words rs)
+unfolding words predecessorPlace
+place-inside [] = omega arith
+place-inside (r ∷ rs) = simp length-append (go (scores r) (some-words (predecessorPlace rs) r) (place-inside rs))
+  where
+    some-words : (place : ℕ) (r : Row) → 0 < length (recordOf place r)
+    some-words place r = unfold recordOf in omega arith
+
+    go : (b : Bool) → 0 < length (recordOn rs r) → predecessorPlace rs ≤ length (words rs) → cond b (suc (length (words rs))) (predecessorPlace rs) ≤ length (words rs) + length (recordOn rs r)
+    go true l ih = omega arith
+    go false l ih = omega arith
 
 latest-new : (r : Row) (rs : List Row) → latestOf (r ∷ rs) ≡ cond (scores r) (At (suc (length (words rs))) (length rs) (rowSize r)) (latestOf rs)
 unfolding latestOf
@@ -49,41 +73,46 @@ module _ (rs : List Row) (ws : List ℕ) where
   abbrev passes : Bool
   passes = recordOk rs (readRow ws) ws
 
-  is-ok : recordAt (sizeOf (predecessor rs)) (length rs) ws ≡ cond passes (Whole (length (recordOf (readRow ws))) (rowSize (readRow ws)) (scores (readRow ws))) Bad
+  is-ok : recordAt (predecessorPlace rs) (sizeOf (predecessor rs)) (length rs) ws ≡ cond passes (Whole (length (recordOn rs (readRow ws))) (rowSize (readRow ws)) (scores (readRow ws))) Bad
   unfolding recordAt wellRead
   is-ok = refl
 
   -- what a whole record is
   pub record Found (l c : ℕ) (s : Bool) : Type 0 where
-    pub long : l ≡ length (recordOf (readRow ws))
+    pub long : l ≡ length (recordOn rs (readRow ws))
     pub many : c ≡ rowSize (readRow ws)
     pub score : s ≡ scores (readRow ws)
     pub ok : T (recordOk rs (readRow ws) ws)
 
-  found : (l c : ℕ) (s : Bool) → recordAt (sizeOf (predecessor rs)) (length rs) ws ≡ Whole l c s → Found l c s
+  found : (l c : ℕ) (s : Bool) → recordAt (predecessorPlace rs) (sizeOf (predecessor rs)) (length rs) ws ≡ Whole l c s → Found l c s
   found l c s e = go passes refl (sym is-ok ∙ e)
     where
-      go : (b : Bool) → passes ≡ b → cond b (Whole (length (recordOf (readRow ws))) (rowSize (readRow ws)) (scores (readRow ws))) Bad ≡ Whole l c s → Found l c s
+      go : (b : Bool) → passes ≡ b → cond b (Whole (length (recordOn rs (readRow ws))) (rowSize (readRow ws)) (scores (readRow ws))) Bad ≡ Whole l c s → Found l c s
       go true q k = record { long = cc; many = cc; score = cc; ok = taken q }
       go false q k = whole-bad k
 
-  bad : recordAt (sizeOf (predecessor rs)) (length rs) ws ≡ Bad → recordOk rs (readRow ws) ws ≡ false
+  bad : recordAt (predecessorPlace rs) (sizeOf (predecessor rs)) (length rs) ws ≡ Bad → recordOk rs (readRow ws) ws ≡ false
   bad e = go passes refl (sym is-ok ∙ e)
     where
-      go : (b : Bool) → passes ≡ b → cond b (Whole (length (recordOf (readRow ws))) (rowSize (readRow ws)) (scores (readRow ws))) Bad ≡ Bad → passes ≡ false
+      go : (b : Bool) → passes ≡ b → cond b (Whole (length (recordOn rs (readRow ws))) (rowSize (readRow ws)) (scores (readRow ws))) Bad ≡ Bad → passes ≡ false
       go true q k = whole-bad (sym k)
       go false q k = q
 
-  -- a record lies within the words, and has three at least
-  fits : T (recordOk rs (readRow ws) ws) → (3 ≤ length (recordOf (readRow ws))) × (length (recordOf (readRow ws)) ≤ length ws)
+  -- a record lies within the words, and has four at least
+  fits : T (recordOk rs (readRow ws) ws) → (4 ≤ length (recordOn rs (readRow ws))) × (length (recordOn rs (readRow ws)) ≤ length ws)
   fits t =
-      let split = starts-split (recordOf (readRow ws)) ws (and-l (starts (recordOf (readRow ws)) ws) (rowOk (sizeOf (predecessor rs)) (length rs) (readRow ws)) t) in
-      (three (readRow ws), omega (arith, simp length-append at (ap length split)))
+      let split = starts-split (recordOn rs (readRow ws)) ws (and-l (starts (recordOn rs (readRow ws)) ws) (rowOk (sizeOf (predecessor rs)) (length rs) (readRow ws)) t) in
+      (four (predecessorPlace rs) (readRow ws), omega (arith, simp length-append at (ap length split)))
     where
-      three : (r : Row) → 3 ≤ length (recordOf r)
-      three r = unfold recordOf in simp length-append (omega arith)
+      four : (place : ℕ) (r : Row) → 4 ≤ length (recordOf place r)
+      four place r = unfold recordOf in simp length-append (omega arith)
 
 -- ---- the walk
+
+-- what the row reader is asked, which is lent `&journal[at..]`
+pub record-asked : (journal : List ℕ) (latest : Predecessor) (at rows place q : ℕ) → place ≡ placeOf latest → q ≡ candidatesOf latest
+    → recordAt (placeOf latest) (candidatesOf latest) rows (drop at journal) ≡ recordAt place q rows (take (length journal - at) (drop at journal))
+record-asked journal latest at rows place q e f = rw (e, f, take-rest at journal)
 
 -- at a place of the used words, with so many rows read and this predecessor of a further one
 pub record Walked (journal : List ℕ) (at rows : ℕ) (latest : Predecessor) : Type 0 where
@@ -108,11 +137,16 @@ walked-start journal h = record {
 
 module _ (journal : List ℕ) (at rows : ℕ) (latest : Predecessor) (w : Walked journal at rows latest) where
   -- as the row reader is asked
-  asked : recordAt (candidatesOf latest) rows (drop at journal) ≡ recordAt (sizeOf (predecessor (w .standing))) (length (w .standing)) (drop at journal)
+  asked : recordAt (placeOf latest) (candidatesOf latest) rows (drop at journal) ≡ recordAt (predecessorPlace (w .standing)) (sizeOf (predecessor (w .standing))) (length (w .standing)) (drop at journal)
   asked =
-      ap (λ (x : Predecessor). recordAt (candidatesOf x) rows (drop at journal)) (sym (w .last))
-      ∙ ap (λ (q : ℕ). recordAt q rows (drop at journal)) (latest-size (w .standing))
-      ∙ ap (λ (n : ℕ). recordAt (sizeOf (predecessor (w .standing))) n (drop at journal)) (sym (w .counted))
+      ap (λ (x : Predecessor). recordAt (placeOf x) (candidatesOf x) rows (drop at journal)) (sym (w .last))
+      ∙ rw (latest-size (w .standing), latest-place (w .standing), ← w .counted)
+
+  -- a place that a word of kind 7 has bits for, where the journal's length has
+  pub walked-place : length journal < 268435456 → placeOf latest < 268435456
+  walked-place h =
+      let same : predecessorPlace (w .standing) ≡ placeOf latest = sym (latest-place (w .standing)) ∙ ap placeOf (w .last) in
+      omega (arith, place-inside (w .standing), w .placed, w .inside)
 
   module _ (here : at < length journal) where
     some-left : 0 < length (drop at journal)
@@ -133,7 +167,7 @@ module _ (journal : List ℕ) (at rows : ℕ) (latest : Predecessor) (w : Walked
       one-more = omega arith
 
       -- no record
-      pub walked-bad : recordAt (candidatesOf latest) rows (drop at journal) ≡ Bad → surveyOf (length journal) (readRows rowLimit [] (drop 1 journal)) ≡ NotWellFormed
+      pub walked-bad : recordAt (placeOf latest) (candidatesOf latest) rows (drop at journal) ≡ Bad → surveyOf (length journal) (readRows rowLimit [] (drop 1 journal)) ≡ NotWellFormed
       walked-bad e =
           ap (surveyOf (length journal))
           (sym (w .left) ∙ ap (λ (n : ℕ). readRows n (w .standing) (drop at journal)) one-more
@@ -144,11 +178,11 @@ module _ (journal : List ℕ) (at rows : ℕ) (latest : Predecessor) (w : Walked
           broken n rs (x ∷ ws) h q = unfold readRows in rw q
 
       -- a record: its length, and the walk past it
-      module _ (l c : ℕ) (s : Bool) (e : recordAt (candidatesOf latest) rows (drop at journal) ≡ Whole l c s) where
+      module _ (l c : ℕ) (s : Bool) (e : recordAt (placeOf latest) (candidatesOf latest) rows (drop at journal) ≡ Whole l c s) where
         one-found : Found (w .standing) (drop at journal) l c s
         one-found = found (w .standing) (drop at journal) l c s (sym asked ∙ e)
 
-        pub walked-room : (3 ≤ l) × (at + l ≤ length journal)
+        pub walked-room : (4 ≤ l) × (at + l ≤ length journal)
         walked-room =
             let f = one-found in
             let g = fits (w .standing) (drop at journal) (f .ok) in
@@ -171,8 +205,8 @@ module _ (journal : List ℕ) (at rows : ℕ) (latest : Predecessor) (w : Walked
                   ∙ ap (readRows (rowLimit - (rows + 1)) (r ∷ w .standing)) (drop-drop l at journal)) ∙ w .left;
             }
           where
-            longer : (r : Row) → l ≡ length (recordOf r) → suc (length (words (r ∷ w .standing))) ≡ at + l
-            longer r q = unfold words in omega (arith, length-append (words (w .standing)) (recordOf r), w .placed)
+            longer : (r : Row) → l ≡ length (recordOn (w .standing) r) → suc (length (words (r ∷ w .standing))) ≡ at + l
+            longer r q = unfold words in omega (arith, length-append (words (w .standing)) (recordOn (w .standing) r), w .placed)
 
             picked : (r : Row) → c ≡ rowSize r → s ≡ scores r → cond (scores r) (At (suc (length (words (w .standing)))) (length (w .standing)) (rowSize r)) (latestOf (w .standing)) ≡ cond s (At at rows c) latest
             picked r a b = cc (w .placed, w .counted, w .last)

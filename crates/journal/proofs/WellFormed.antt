@@ -16,8 +16,8 @@ use Rattle.binary64.proofs.Order.{taken}
 use Rattle.journal.specs.Lists.{starts}
 use Rattle.journal.specs.Row.{Row, rowSize, predecessor, sizeOf}
 use Rattle.journal.specs.Ranges.{rowLimit}
-use Rattle.journal.specs.Record.{usedWord, recordOf, readCell, readDistance, readEach, headCount, headBefore, readRow}
-use Rattle.journal.specs.Journal.{words, journal, rowOk, recordOk, readRows, used, usedWords, readJournal}
+use Rattle.journal.specs.Record.{usedWord, headWords, readCell, readDistance, readEach, headCount, headBefore, readRow}
+use Rattle.journal.specs.Journal.{words, recordOn, journal, rowOk, recordOk, readRows, used, usedWords, readJournal}
 use Rattle.journal.specs.WellFormed.{Each, Fitting, CellFits, RowFits, Obey, WellFormed}
 use Rattle.journal.proofs.Lists.{some-none, starts-split}
 use Rattle.journal.proofs.Rules.{row-rules}
@@ -44,7 +44,7 @@ distance-fits : (ws : List ℕ) → Fitting (readDistance ws)
 distance-fits ws = ofBits-fits binary64 (getD ws 0 0 * 4294967296 + getD ws 1 0)
 
 row-fit : (rs : List Row) (ws : List ℕ) → Obey rs → T (rowOk (sizeOf (predecessor rs)) (length rs) (readRow ws)) → RowFits (readRow ws)
-row-fit rs ws h ok = go (readRow ws) (unfold readRow in each-fits CellFits readCell 7 cell-fits c (drop 1 ws)) (unfold readRow in each-fits Fitting readDistance 2 distance-fits (c * p) (drop 1 (drop (7 * c) (drop 1 ws)))) ok
+row-fit rs ws h ok = go (readRow ws) (unfold readRow in each-fits CellFits readCell 7 cell-fits c (drop headWords ws)) (unfold readRow in each-fits Fitting readDistance 2 distance-fits (c * p) (drop 1 (drop (7 * c) (drop headWords ws)))) ok
   where
     c : ℕ
     c = headCount (getD ws 0 0)
@@ -63,9 +63,9 @@ row-fit rs ws h ok = go (readRow ws) (unfold readRow in each-fits CellFits readC
           distances = d;
         }
 
-words-cons : (r : Row) (rs : List Row) (ws : List ℕ) → words (r ∷ rs) ++ ws ≡ words rs ++ (recordOf r ++ ws)
+words-cons : (r : Row) (rs : List Row) (ws : List ℕ) → words (r ∷ rs) ++ ws ≡ words rs ++ (recordOn rs r ++ ws)
 unfolding words
-words-cons r rs ws = append-assoc (words rs) (recordOf r) ws
+words-cons r rs ws = append-assoc (words rs) (recordOn rs r) ws
 
 words-nil : (ws : List ℕ) → words [] ++ ws ≡ ws
 unfolding words
@@ -96,7 +96,7 @@ read-sound (suc n) rs (w ∷ ws) qs h e = go (recordOk rs r (w ∷ ws)) refl (re
     r = readRow (w ∷ ws)
 
     rest : List ℕ
-    rest = drop (length (recordOf r)) (w ∷ ws)
+    rest = drop (length (recordOn rs r)) (w ∷ ws)
 
     ok : Bool
     ok = rowOk (sizeOf (predecessor rs)) (length rs) r
@@ -105,10 +105,10 @@ read-sound (suc n) rs (w ∷ ws) qs h e = go (recordOk rs r (w ∷ ws)) refl (re
         → cond b (readRows n (r ∷ rs) rest) none ≡ some qs → Read (suc n) rs (w ∷ ws) qs
     go false q ih k = some-none (sym k)
     go true q ih k =
-        let s = and-l (starts (recordOf r) (w ∷ ws)) ok (taken q) in
-        let o = and-r (starts (recordOf r) (w ∷ ws)) ok (taken q) in
+        let s = and-l (starts (recordOn rs r) (w ∷ ws)) ok (taken q) in
+        let o = and-r (starts (recordOn rs r) (w ∷ ws)) ok (taken q) in
         let t = ih ((row-fit rs (w ∷ ws) h o, o), h) k in
-        (t .0 ∙ words-cons r rs rest ∙ ap (λ (l : List ℕ). words rs ++ l) (starts-split (recordOf r) (w ∷ ws) s), t .1, omega (arith, t .2))
+        (t .0 ∙ words-cons r rs rest ∙ ap (λ (l : List ℕ). words rs ++ l) (starts-split (recordOn rs r) (w ∷ ws) s), t .1, omega (arith, t .2))
 
 -- ---- the journal
 

@@ -12,24 +12,28 @@ use Rattle.journal.specs.Row.{Row, rowSize, scores, predecessor, sizeOf,
 use Rattle.journal.specs.Ranges.{candidateLimit, rowLimit, distanceOk, cellOk}
 use Rattle.journal.specs.Record.{usedWord, recordOf, readRow}
 
-mutual
+unfoldable mutual
   -- what follows word 0, the oldest row first
-  unfoldable pub words : List Row → List ℕ
+  pub words : List Row → List ℕ
   words [] = []
   words (r ∷ rs) = words rs ++ recordOf (predecessorPlace rs) r
 
   -- where the record of a further row's predecessor starts, counted from word 0, or 0 for none
-  unfoldable pub predecessorPlace : List Row → ℕ
+  pub predecessorPlace : List Row → ℕ
   predecessorPlace [] = 0
   predecessorPlace (r ∷ rs) = cond (scores r) (suc (length (words rs))) (predecessorPlace rs)
+
+-- the record of a row on the rows before it
+abbrev pub recordOn : List Row → Row → List ℕ
+recordOn rs r = recordOf (predecessorPlace rs) r
 
 -- the used words of a journal with these rows
 unfoldable pub journal : List Row → List ℕ
 journal rs = usedWord (suc (length (words rs))) ∷ words rs
 
--- a row's record in the words past the n used ones, and word 0 with it counted
-unfoldable pub put : List ℕ → ℕ → ℕ → Row → List ℕ
-put s n place r = set (sets s n (recordOf place r)) 0 (usedWord (n + length (recordOf place r)))
+-- a record in the words past the n used ones, and word 0 with it counted
+unfoldable pub put : List ℕ → ℕ → List ℕ → List ℕ
+put s n own = set (sets s n own) 0 (usedWord (n + length own))
 
 -- ---- well formed
 
@@ -42,7 +46,7 @@ rowOk q n r =
 
 -- the words hold the row's record, and it obeys the rules on the rows before it
 abbrev pub recordOk : List Row → Row → List ℕ → Bool
-recordOk rs r ws = starts (recordOf (predecessorPlace rs) r) ws && rowOk (sizeOf (predecessor rs)) (length rs) r
+recordOk rs r ws = starts (recordOn rs r) ws && rowOk (sizeOf (predecessor rs)) (length rs) r
 
 -- the rows of the words that follow word 0, on rows already read; at most n more rows
 unfoldable pub readRows : ℕ → List Row → List ℕ → Option (List Row)
@@ -51,7 +55,7 @@ readRows zero rs (w ∷ ws) = none
 readRows (suc n) rs [] = some rs
 readRows (suc n) rs (w ∷ ws) =
     let r = readRow (w ∷ ws) in
-    let further = readRows n (r ∷ rs) (drop (length (recordOf (predecessorPlace rs) r)) (w ∷ ws)) in
+    let further = readRows n (r ∷ rs) (drop (length (recordOn rs r)) (w ∷ ws)) in
     cond (recordOk rs r (w ∷ ws)) further none
 
 -- what word 0 says

@@ -127,9 +127,17 @@ pub fn add_row(
     requires { λ row. ⌜ Entries16 fix × RowWritable row ⌝ }
     requires { λ row. ⌜ (used + length (recordOf place row) ≤ length (now journal)) × (used + length (recordOf place row) < 268435456) ⌝ }
     requires { λ _. ⌜ place ≤ used ⌝ }
-    ensures { λ row _. ⌜ now (journal .exit) ≡ put (now (journal .entry)) used place row ⌝ }
+    ensures { λ row _. ⌜ now (journal .exit) ≡ put (now (journal .entry)) used (recordOf place row) ⌝ }
 {
-    let n = put_row(&mut journal[used..], place, fix, distances, parents, scores, p);
+    let n = put_row(
+        &mut journal[used..],
+        place,
+        fix,
+        distances,
+        parents,
+        scores,
+        p,
+    );
     let end = used + n;
     journal[0] = 0x5000_0000 + end as u32;
 }

@@ -9,6 +9,20 @@ use Rattle.journal.proofs.Records.{body-last}
 use Rattle.journal.proofs.read.body_reads.Statement.{statement}
 use Rattle.journal.proofs.read.body_reads.Tie as tie
 
+shared-slice-read-if1 : tie.Need-shared-slice-read-if1
+unfolding recordLength
+shared-slice-read-if1 c = omega arith
+
+cast-if1 : tie.Need-cast-if1
+cast-if1 c = omega arith
+
+add-if1 : tie.Need-add-if1
+add-if1 c = omega arith
+
+returns : tie.Need-returns
+unfolding bodyReads
+returns c = simp (ne-eqb _ _ (c .if1 .taken))
+
 cast-cells-read : tie.Need-cast-cells-read
 cast-cells-read c = omega arith
 
@@ -16,9 +30,9 @@ cells-read-requires : tie.Need-cells-read-requires
 unfolding recordLength
 cells-read-requires c κs = omega arith
 
-returns : tie.Need-returns
+returns-2 : tie.Need-returns-2
 unfolding bodyReads
-returns c = simp (sym (c .before .cells-read .ensures) ∙ not-true _ (c .if1 .taken))
+returns-2 c = simp (eq-eqb _ _ (c .before .before .if1 .left), sym (c .before .cells-read .ensures) ∙ not-true _ (c .if2 .taken))
 
 distance-count-requires : tie.Need-distance-count-requires
 distance-count-requires c κs = search needs
@@ -29,22 +43,22 @@ mul-at c = omega arith
 add-at : tie.Need-add-at
 add-at c = omega arith
 
-mul-if2 : tie.Need-mul-if2
-mul-if2 c = omega arith
+mul-if3 : tie.Need-mul-if3
+mul-if3 c = omega arith
 
-shared-slice-read-if2 : tie.Need-shared-slice-read-if2
+shared-slice-read-if3 : tie.Need-shared-slice-read-if3
 unfolding recordLength
-shared-slice-read-if2 c = omega arith
+shared-slice-read-if3 c = omega arith
 
-cast-if2 : tie.Need-cast-if2
-cast-if2 c = omega arith
+cast-if3 : tie.Need-cast-if3
+cast-if3 c = omega arith
 
-add-if2 : tie.Need-add-if2
-add-if2 c = omega arith
+add-if3 : tie.Need-add-if3
+add-if3 c = omega arith
 
-returns-2 : tie.Need-returns-2
+returns-3 : tie.Need-returns-3
 unfolding bodyReads
-returns-2 c = simp (sym (c .before .before .before .before .cells-read .ensures) ∙ not-false _ (c .before .before .before .if1 .left), ← c .before .before .distance-count .ensures .0, ne-eqb _ _ (c .if2 .taken))
+returns-3 c = simp (eq-eqb _ _ (c .before .before .before .before .before .if1 .left), sym (c .before .before .before .before .cells-read .ensures) ∙ not-false _ (c .before .before .before .if2 .left), ← c .before .before .distance-count .ensures .0, ne-eqb _ _ (c .if3 .taken))
 
 add-distances-read : tie.Need-add-distances-read
 add-distances-read c = omega arith
@@ -53,9 +67,9 @@ distances-read-requires : tie.Need-distances-read-requires
 unfolding recordLength
 distances-read-requires c κs = omega (arith, c .before .before .distance-count .ensures .0)
 
-returns-3 : tie.Need-returns-3
+returns-4 : tie.Need-returns-4
 unfolding bodyReads
-returns-3 c = simp (sym (c .before .before .before .before .before .before .cells-read .ensures) ∙ not-false _ (c .before .before .before .before .before .if1 .left), ← c .before .before .before .before .distance-count .ensures .0, eq-eqb _ _ (c .before .before .if2 .left), sym (c .before .distances-read .ensures) ∙ not-true _ (c .if3 .taken))
+returns-4 c = simp (eq-eqb _ _ (c .before .before .before .before .before .before .before .if1 .left), sym (c .before .before .before .before .before .before .cells-read .ensures) ∙ not-false _ (c .before .before .before .before .before .if2 .left), ← c .before .before .before .before .distance-count .ensures .0, eq-eqb _ _ (c .before .before .if3 .left), sym (c .before .distances-read .ensures) ∙ not-true _ (c .if4 .taken))
 
 record-length-requires : tie.Need-record-length-requires
 record-length-requires c κs = search needs
@@ -77,33 +91,37 @@ cast-result c = omega arith
 add-result : tie.Need-add-result
 add-result c = omega arith
 
-returns-4 : tie.Need-returns-4
-returns-4 c =
-    let s = c .before .before .before .before .before .before .before .before .before .before .args in
-    body-last (s .c) (s .p) (s .row) (s .words .now) _ _ (c .before .record-length .ensures .0) (c .before .before .before .before .before .before .distance-count .ensures .0) (sym (c .before .before .before .before .before .before .before .before .cells-read .ensures) ∙ not-false _ (c .before .before .before .before .before .before .before .if1 .left)) (eq-eqb _ _ (c .before .before .before .before .if2 .left)) (sym (c .before .before .before .distances-read .ensures) ∙ not-false _ (c .before .before .if3 .left))
+returns-5 : tie.Need-returns-5
+returns-5 c =
+    let s = c .before .before .before .before .before .before .before .before .before .before .before .before .args in
+    body-last (s .place) (s .c) (s .p) (s .row) (s .words .now) _ _ (c .before .record-length .ensures .0) (c .before .before .before .before .before .before .distance-count .ensures .0) (eq-eqb _ _ (c .before .before .before .before .before .before .before .before .before .if1 .left)) (sym (c .before .before .before .before .before .before .before .before .cells-read .ensures) ∙ not-false _ (c .before .before .before .before .before .before .before .if2 .left)) (eq-eqb _ _ (c .before .before .before .before .if3 .left)) (sym (c .before .before .before .distances-read .ensures) ∙ not-false _ (c .before .before .if4 .left))
 
 pub body-reads-spec : {M : Type 1} → statement M
 body-reads-spec =
     tie.close
     (tie.spec
+    shared-slice-read-if1
+    cast-if1
+    add-if1
+    returns
     cast-cells-read
     cells-read-requires
-    returns
+    returns-2
     distance-count-requires
     mul-at
     add-at
-    mul-if2
-    shared-slice-read-if2
-    cast-if2
-    add-if2
-    returns-2
+    mul-if3
+    shared-slice-read-if3
+    cast-if3
+    add-if3
+    returns-3
     add-distances-read
     distances-read-requires
-    returns-3
+    returns-4
     record-length-requires
     sub-last
     mul-result
     shared-slice-read-result
     cast-result
     add-result
-    returns-4)
+    returns-5)

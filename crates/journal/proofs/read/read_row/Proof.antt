@@ -10,7 +10,7 @@ use Rattle.journal.proofs.read.read_row.Statement.{statement}
 use Rattle.journal.proofs.read.read_row.Tie as tie
 
 returns : tie.Need-returns
-returns c = sym (record-none _ _ _ (c .if1 .taken))
+returns c = sym (record-none _ _ _ _ (c .if1 .taken))
 
 shared-slice-read-head : tie.Need-shared-slice-read-head
 shared-slice-read-head c = omega arith
@@ -18,7 +18,7 @@ shared-slice-read-head c = omega arith
 returns-2 : tie.Need-returns-2
 returns-2 c =
     let s = c .before .before .before .before .args in
-    record-by (s .q) (s .row) (s .words .now) false _ _ _ _ (omega arith) (ne-eqb _ _ (c .if2 .taken)) refl refl refl refl
+    record-by (s .place) (s .q) (s .row) (s .words .now) false _ _ _ _ (omega arith) (ne-eqb _ _ (c .if2 .taken)) refl refl refl refl
 
 cast-c : tie.Need-cast-c
 cast-c c = omega arith
@@ -29,7 +29,7 @@ cast-p c = omega arith
 returns-3 : tie.Need-returns-3
 returns-3 c =
     let s = c .before .before .before .before .before .args in
-    record-by (s .q) (s .row) (s .words .now) true false _ _ _ (omega arith) (eq-eqb _ _ (c .before .if2 .left)) (lt-leb _ _ (c .if3 .taken)) refl refl refl
+    record-by (s .place) (s .q) (s .row) (s .words .now) true false _ _ _ (omega arith) (eq-eqb _ _ (c .before .if2 .left)) (lt-leb _ _ (c .if3 .taken)) refl refl refl
 
 before-of-requires : tie.Need-before-of-requires
 before-of-requires c κs = search needs
@@ -37,7 +37,7 @@ before-of-requires c κs = search needs
 returns-4 : tie.Need-returns-4
 returns-4 c =
     let s = c .before .before .before .before .before .before .before .args in
-    record-by (s .q) (s .row) (s .words .now) true true false _ _ (omega arith) (eq-eqb _ _ (c .before .before .before .if2 .left)) (le-leb _ _ (c .before .before .if3 .left)) (ne-eqb _ _ (rw (c .before .before-of .ensures) at (c .if4 .taken))) refl refl
+    record-by (s .place) (s .q) (s .row) (s .words .now) true true false _ _ (omega arith) (eq-eqb _ _ (c .before .before .before .if2 .left)) (le-leb _ _ (c .before .before .if3 .left)) (ne-eqb _ _ (rw (c .before .before-of .ensures) at (c .if4 .taken))) refl refl
 
 record-length-requires : tie.Need-record-length-requires
 record-length-requires c κs = search needs
@@ -45,7 +45,7 @@ record-length-requires c κs = search needs
 returns-5 : tie.Need-returns-5
 returns-5 c =
     let s = c .before .before .before .before .before .before .before .before .before .args in
-    record-by (s .q) (s .row) (s .words .now) true true true false _ (omega arith) (eq-eqb _ _ (c .before .before .before .before .before .if2 .left)) (le-leb _ _ (c .before .before .before .before .if3 .left)) (eq-eqb _ _ (c .before .before .if4 .left ∙ c .before .before .before .before-of .ensures)) (lt-leb _ _ (rw (c .before .record-length .ensures .0) at (c .if5 .taken))) refl
+    record-by (s .place) (s .q) (s .row) (s .words .now) true true true false _ (omega arith) (eq-eqb _ _ (c .before .before .before .before .before .if2 .left)) (le-leb _ _ (c .before .before .before .before .if3 .left)) (eq-eqb _ _ (c .before .before .if4 .left ∙ c .before .before .before .before-of .ensures)) (lt-leb _ _ (rw (c .before .record-length .ensures .0) at (c .if5 .taken))) refl
 
 body-reads-requires : tie.Need-body-reads-requires
 body-reads-requires c κs = search needs
@@ -53,7 +53,7 @@ body-reads-requires c κs = search needs
 returns-6 : tie.Need-returns-6
 returns-6 c =
     let s = c .before .before .before .before .before .before .before .before .before .before .before .args in
-    record-by (s .q) (s .row) (s .words .now) true true true true false (omega arith) (eq-eqb _ _ (c .before .before .before .before .before .before .before .if2 .left)) (le-leb _ _ (c .before .before .before .before .before .before .if3 .left)) (eq-eqb _ _ (c .before .before .before .before .if4 .left ∙ c .before .before .before .before .before .before-of .ensures)) (le-leb _ _ (rw (c .before .before .before .record-length .ensures .0) at (c .before .before .if5 .left)))
+    record-by (s .place) (s .q) (s .row) (s .words .now) true true true true false (omega arith) (eq-eqb _ _ (c .before .before .before .before .before .before .before .if2 .left)) (le-leb _ _ (c .before .before .before .before .before .before .if3 .left)) (eq-eqb _ _ (c .before .before .before .before .if4 .left ∙ c .before .before .before .before .before .before-of .ensures)) (le-leb _ _ (rw (c .before .before .before .record-length .ensures .0) at (c .before .before .if5 .left)))
     (sym (c .before .body-reads .ensures) ∙ not-true _ (c .if6 .taken))
 
 scores-read-requires : tie.Need-scores-read-requires
@@ -64,7 +64,7 @@ returns-7 : tie.Need-returns-7
 returns-7 c =
     let s = c .before .before .before .before .before .before .before .before .before .before .before .before .args in
     rw (c .scores-read .ensures, c .before .before .before .before .record-length .ensures .0)
-    (record-by (s .q) (s .row) (s .words .now) true true true true true (omega arith) (eq-eqb _ _ (c .before .before .before .before .before .before .before .before .if2 .left)) (le-leb _ _ (c .before .before .before .before .before .before .before .if3 .left)) (eq-eqb _ _ (c .before .before .before .before .before .if4 .left ∙ c .before .before .before .before .before .before .before-of .ensures)) (le-leb _ _ (rw (c .before .before .before .before .record-length .ensures .0) at (c .before .before .before .if5 .left)))
+    (record-by (s .place) (s .q) (s .row) (s .words .now) true true true true true (omega arith) (eq-eqb _ _ (c .before .before .before .before .before .before .before .before .if2 .left)) (le-leb _ _ (c .before .before .before .before .before .before .before .if3 .left)) (eq-eqb _ _ (c .before .before .before .before .before .if4 .left ∙ c .before .before .before .before .before .before .before-of .ensures)) (le-leb _ _ (rw (c .before .before .before .before .record-length .ensures .0) at (c .before .before .before .if5 .left)))
     (sym (c .before .before .body-reads .ensures) ∙ not-false _ (c .before .if6 .left)))
 
 pub read-row-spec : {M : Type 1} → statement M

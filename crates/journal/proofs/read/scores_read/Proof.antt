@@ -6,12 +6,12 @@ use mathlib.Core.Path.{_≡_, sym, _∙_}
 use lib.Ieee.Scale.{finite}
 use Rattle.lists.proofs.Loops.{any-none, any-turn, any-done, any-stop}
 use Rattle.lists.specs.Loops.{anyBelow}
-use Rattle.journal.specs.Record.{floatAt}
+use Rattle.journal.specs.Record.{headWords, floatAt}
 use Rattle.journal.proofs.read.scores_read.Statement.{statement}
 use Rattle.journal.proofs.read.scores_read.Tie as tie
 
 abbrev Inv-loop : tie.InvT-loop
-Inv-loop words c k₀ k = (k ≤ c) × (anyBelow k (λ j. finite (floatAt words (6 + 7 * j))) ≡ false)
+Inv-loop words c k₀ k = (k ≤ c) × (anyBelow k (λ j. finite (floatAt words (headWords + 7 * j + 5))) ≡ false)
 
 abbrev μ-loop : tie.MeasureT-loop
 μ-loop words c k₀ k = c - k
@@ -24,6 +24,9 @@ mul-finite-reads c = omega arith
 
 add-finite-reads : tie.Need-add-finite-reads Inv-loop μ-loop
 add-finite-reads c = omega arith
+
+add-finite-reads-2 : tie.Need-add-finite-reads-2 Inv-loop μ-loop
+add-finite-reads-2 c = omega arith
 
 finite-reads-requires : tie.Need-finite-reads-requires Inv-loop μ-loop
 finite-reads-requires c κs = omega arith
@@ -52,6 +55,7 @@ scores-read-spec =
     loop-holds
     mul-finite-reads
     add-finite-reads
+    add-finite-reads-2
     finite-reads-requires
     returns
     add-k

@@ -44,7 +44,7 @@ returns : tie.Need-returns
 returns c =
     let s = c .before .before .before .before .before .before in
     let row = rowOf (fixIn (s .args .fix) (s .args .distances .now)) (s .args .parents .now) (s .args .scores .now) (s .args .p) in
-    row-put (s .args .journal .now) _ (s .args .used) _ row (omega arith) (c .before .before .put-row .ensures .1) (c .before .before .put-row .ensures .0)
+    row-put (s .args .journal .now) _ (recordOf (s .args .place) row) (s .args .used) _ (omega arith) (c .before .before .put-row .ensures .1) (c .before .before .put-row .ensures .0)
 
 pub add-row-spec : {M : Type 1} → statement M
 add-row-spec =
