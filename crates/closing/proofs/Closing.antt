@@ -11,8 +11,8 @@ use lib.ListN.{length, drop, length-drop, length-reverse}
 use Rattle.lists.proofs.Lists.{map-back}
 use Rattle.binary64.proofs.Order.{taken}
 use Rattle.journal.specs.Row.{Row, rowSize, scores, predecessor}
-use Rattle.journal.specs.Record.{recordOf, readRow}
-use Rattle.journal.specs.Journal.{used, readJournal}
+use Rattle.journal.specs.Record.{readRow}
+use Rattle.journal.specs.Journal.{recordOn, used, readJournal}
 use Rattle.journal.specs.WellFormed.{Obey}
 use Rattle.journal.specs.inner.Check.{latestOf, survey}
 use Rattle.journal.specs.declared.check.Predecessor.{Predecessor}
@@ -94,7 +94,7 @@ module _ (s : List ℕ) (rows used place count : ℕ) (h : Scoring s rows used p
   obeys : Obey (last .latest ∷ last .earlier)
   obeys = row-obeys s (rowsIn s) reads (last .after) (last .latest) (last .earlier) (last .stands)
 
-  long : place + length (recordOf (last .latest)) ≤ length s
+  long : place + length (recordOn (last .earlier) (last .latest)) ≤ length s
   long = omega (arith, last .placed, row-inside s (rowsIn s) reads (last .after) (last .latest) (last .earlier) (last .stands))
 
   pub last-inside : place ≤ length s

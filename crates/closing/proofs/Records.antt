@@ -5,15 +5,15 @@ use mathlib.Core.Path.{_≡_, ap, _∙_}
 use mathlib.Core.List.{List}
 use lib.ListN.{getD}
 use Rattle.journal.specs.Row.{Cell, rowSize, cellOf}
-use Rattle.journal.specs.Record.{readRow}
+use Rattle.journal.specs.Record.{headWords, readRow}
 use Rattle.journal.proofs.Tests.{drop-first}
 use Rattle.journal.proofs.RecordRead.{row-size, row-cell}
 use Rattle.rows.specs.inner.Scoring.{CandidateStands, RecordStands}
 use Rattle.closing.specs.inner.Walk.{RecordInRange}
 
 module _ (ws : List ℕ) where
-  pub row-parent : (i : ℕ) → i < rowSize (readRow ws) → cellOf (readRow ws) i .parent ≡ getD ws (1 + 7 * i) 0 / 2048 % 32
-  row-parent i h = ap (λ (c : Cell). c .parent) (row-cell ws i h) ∙ ap (λ (w : ℕ). w / 2048 % 32) (drop-first (1 + 7 * i) ws)
+  pub row-parent : (i : ℕ) → i < rowSize (readRow ws) → cellOf (readRow ws) i .parent ≡ getD ws (headWords + 7 * i) 0 / 2048 % 32
+  row-parent i h = ap (λ (c : Cell). c .parent) (row-cell ws i h) ∙ ap (λ (w : ℕ). w / 2048 % 32) (drop-first (headWords + 7 * i) ws)
 
   module _ (h : RecordInRange ws) where
     -- all candidates, counted by the head word

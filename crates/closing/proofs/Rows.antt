@@ -9,7 +9,7 @@ use lib.ListN.{length, getD, drop, length-map, List·getD-map, length-drop}
 use lib.Seq.{drop-cons}
 use lib.Ieee.{Float, nan}
 use Rattle.journal.specs.Row.{Cell, noCell, rowSize, cellOf}
-use Rattle.journal.specs.Record.{floatAt, readDistance, recordLength, readRow}
+use Rattle.journal.specs.Record.{headWords, floatAt, readDistance, recordLength, readRow}
 use Rattle.journal.specs.Journal.{words}
 use Rattle.journal.specs.inner.Strike.{RowsAtLeast, endRead, endOf}
 use Rattle.journal.specs.inner.Check.{survey}
@@ -57,21 +57,21 @@ module _ (ws : List ℕ) where
 
   pub row-number : length (readRow ws .distances) ≡ count * (getD ws 0 0 / 32 % 32)
   unfolding readRow
-  row-number = length-each readDistance 2 (count * (getD ws 0 0 / 32 % 32)) (drop 1 (drop (7 * count) (drop 1 ws)))
+  row-number = length-each readDistance 2 (count * (getD ws 0 0 / 32 % 32)) (drop 1 (drop (7 * count) (drop headWords ws)))
 
-  float-distance : (d : Float) (k : ℕ) → k < count * (getD ws 0 0 / 32 % 32) → floatAt ws (2 + 7 * count + 2 * k) ≡ getD (readRow ws .distances) k d
+  float-distance : (d : Float) (k : ℕ) → k < count * (getD ws 0 0 / 32 % 32) → floatAt ws (headWords + 7 * count + 1 + 2 * k) ≡ getD (readRow ws .distances) k d
   float-distance d k h = let few : k < rowSize (readRow ws) * readRow ws .before = rw (row-size ws, row-before) h in sym (row-distance ws d k few ∙ rw (row-size ws))
 
   -- a candidate's fields
   abbrev plain : ℕ → Cell
   plain k = record {
-    candidate = record { element = getD ws (1 + 7 * k) 0 % 1024; intrinsic = floatAt ws (1 + 7 * k + 1); near = getD ws (1 + 7 * k) 0 / 1024 % 2; «raw_log» = floatAt ws (1 + 7 * k + 3) };
-    parent = getD ws (1 + 7 * k) 0 / 2048 % 32;
-    score = floatAt ws (1 + 7 * k + 5);
+    candidate = record { element = getD ws (headWords + 7 * k) 0 % 1024; intrinsic = floatAt ws (headWords + 7 * k + 1); near = getD ws (headWords + 7 * k) 0 / 1024 % 2; «raw_log» = floatAt ws (headWords + 7 * k + 3) };
+    parent = getD ws (headWords + 7 * k) 0 / 2048 % 32;
+    score = floatAt ws (headWords + 7 * k + 5);
   }
 
   cell-plain : (k : ℕ) → k < rowSize (readRow ws) → cellOf (readRow ws) k ≡ plain k
-  cell-plain k h = row-cell ws k h ∙ cell-at (1 + 7 * k) ws
+  cell-plain k h = row-cell ws k h ∙ cell-at (headWords + 7 * k) ws
 
   -- a column of the cells: where its entries are read
   column-listed : {A : Type 0} (f : Cell → A) (g : ℕ → A) (buffer : List A) → ((k : ℕ) → g k ≡ f (plain k)) → rowSize (readRow ws) ≤ length buffer
@@ -87,7 +87,7 @@ module _ (ws : List ℕ) where
     many = row-size ws
 
     -- its length, by what is read
-    long : 7 * count + 2 * (count * (getD ws 0 0 / 32 % 32)) + 3 ≤ length ws
+    long : 7 * count + 2 * (count * (getD ws 0 0 / 32 % 32)) + 4 ≤ length ws
     unfolding recordLength
     long = rw (many, row-before) at (h .room)
 
@@ -103,10 +103,10 @@ module _ (ws : List ℕ) where
     pub fields-stand : (unit limit : ℕ) (buffer : List ℕ) → 0 < unit → 0 < limit → count ≤ length buffer → FieldsStand ws count unit limit buffer
     fields-stand unit limit buffer u l room = record { inside = omega (arith, long); some-unit = u; some-limit = l; room = room }
 
-    pub floats-stand : (place : ℕ) (buffer : List Float) → place ≤ 6 → count ≤ length buffer → FloatsStand ws place 7 count buffer
+    pub floats-stand : (place : ℕ) (buffer : List Float) → place ≤ headWords + 5 → count ≤ length buffer → FloatsStand ws place 7 count buffer
     floats-stand place buffer l room = record { inside = λ k i. omega (arith, long); small = omega (arith, many, h .few); room = room }
 
-    pub distances-stand : {number : ℕ} (buffer : List Float) → number ≡ count * (getD ws 0 0 / 32 % 32) → number ≤ length buffer → FloatsStand ws (2 + 7 * count) 2 number buffer
+    pub distances-stand : {number : ℕ} (buffer : List Float) → number ≡ count * (getD ws 0 0 / 32 % 32) → number ≤ length buffer → FloatsStand ws (headWords + 7 * count + 1) 2 number buffer
     distances-stand buffer e room = record { inside = λ k i. omega (arith, long); small = omega (arith, product, many, h .few); room = room }
 
   -- ---- checked and stored
@@ -134,28 +134,28 @@ module _ (ws : List ℕ) where
         row-answer = rw (row-fits, row-size ws, row-before)
 
         -- where each float is read
-        at : (i k : ℕ) → floatAt ws (i + 1 + 7 * k) ≡ floatAt ws (1 + 7 * k + i)
-        at i k = let plus : i + 1 + 7 * k ≡ 1 + 7 * k + i = omega arith in ap (floatAt ws) plus
+        at : (i k : ℕ) → floatAt ws (headWords + i + 7 * k) ≡ floatAt ws (headWords + 7 * k + i)
+        at i k = let plus : headWords + i + 7 * k ≡ headWords + 7 * k + i = omega arith in ap (floatAt ws) plus
 
         pub row-filled : {elements : List ℕ} {intrinsics : List Float} {near : List ℕ} {rawLogs : List Float} {parents : List ℕ} {scores distances : List Float}
-            → elements ≡ entriesStored count (λ k. getD ws (1 + 7 * k) 0 / 1 % 1024) (b .elements)
-            → intrinsics ≡ entriesStored count (λ k. floatAt ws (2 + 7 * k)) (b .intrinsics)
-            → near ≡ entriesStored count (λ k. getD ws (1 + 7 * k) 0 / 1024 % 2) (b .near)
-            → rawLogs ≡ entriesStored count (λ k. floatAt ws (4 + 7 * k)) (b .rawLogs)
-            → parents ≡ entriesStored count (λ k. getD ws (1 + 7 * k) 0 / 2048 % 32) (b .parents)
-            → scores ≡ entriesStored count (λ k. floatAt ws (6 + 7 * k)) (b .scores)
-            → distances ≡ entriesStored number (λ k. floatAt ws (2 + 7 * count + 2 * k)) (b .distances)
+            → elements ≡ entriesStored count (λ k. getD ws (headWords + 7 * k) 0 / 1 % 1024) (b .elements)
+            → intrinsics ≡ entriesStored count (λ k. floatAt ws (headWords + 1 + 7 * k)) (b .intrinsics)
+            → near ≡ entriesStored count (λ k. getD ws (headWords + 7 * k) 0 / 1024 % 2) (b .near)
+            → rawLogs ≡ entriesStored count (λ k. floatAt ws (headWords + 3 + 7 * k)) (b .rawLogs)
+            → parents ≡ entriesStored count (λ k. getD ws (headWords + 7 * k) 0 / 2048 % 32) (b .parents)
+            → scores ≡ entriesStored count (λ k. floatAt ws (headWords + 5 + 7 * k)) (b .scores)
+            → distances ≡ entriesStored number (λ k. floatAt ws (headWords + 7 * count + 1 + 2 * k)) (b .distances)
             → rowBuffersOf elements intrinsics near rawLogs parents scores distances ≡ filled (rowFitted b (readRow ws)) b
         unfolding filled
         row-filled q1 q2 q3 q4 q5 q6 q7 =
             let each = rooms (rowSize (readRow ws)) b room in
-            let e1 = q1 ∙ column-listed (λ (c : Cell). c .candidate .element) (λ k. getD ws (1 + 7 * k) 0 / 1 % 1024) (b .elements) (λ k. ap (λ (w : ℕ). w % 1024) (div-one (getD ws (1 + 7 * k) 0))) (each .elements) in
-            let e2 = q2 ∙ column-listed (λ (c : Cell). c .candidate .intrinsic) (λ k. floatAt ws (2 + 7 * k)) (b .intrinsics) (at 1) (each .intrinsics) in
-            let e3 = q3 ∙ column-listed (λ (c : Cell). c .candidate .near) (λ k. getD ws (1 + 7 * k) 0 / 1024 % 2) (b .near) (λ k. refl) (each .near) in
-            let e4 = q4 ∙ column-listed (λ (c : Cell). c .candidate .«raw_log») (λ k. floatAt ws (4 + 7 * k)) (b .rawLogs) (at 3) (each .rawLogs) in
-            let e5 = q5 ∙ column-listed (λ (c : Cell). c .parent) (λ k. getD ws (1 + 7 * k) 0 / 2048 % 32) (b .parents) (λ k. refl) (each .parents) in
-            let e6 = q6 ∙ column-listed (λ (c : Cell). c .score) (λ k. floatAt ws (6 + 7 * k)) (b .scores) (at 5) (each .scores) in
-            let e7 = q7 ∙ entries-listed nan (readRow ws .distances) (b .distances) (λ k. floatAt ws (2 + 7 * count + 2 * k)) (e ∙ sym row-number) d (λ k i. float-distance nan k (omega arith)) in
+            let e1 = q1 ∙ column-listed (λ (c : Cell). c .candidate .element) (λ k. getD ws (headWords + 7 * k) 0 / 1 % 1024) (b .elements) (λ k. ap (λ (w : ℕ). w % 1024) (div-one (getD ws (headWords + 7 * k) 0))) (each .elements) in
+            let e2 = q2 ∙ column-listed (λ (c : Cell). c .candidate .intrinsic) (λ k. floatAt ws (headWords + 1 + 7 * k)) (b .intrinsics) (at 1) (each .intrinsics) in
+            let e3 = q3 ∙ column-listed (λ (c : Cell). c .candidate .near) (λ k. getD ws (headWords + 7 * k) 0 / 1024 % 2) (b .near) (λ k. refl) (each .near) in
+            let e4 = q4 ∙ column-listed (λ (c : Cell). c .candidate .«raw_log») (λ k. floatAt ws (headWords + 3 + 7 * k)) (b .rawLogs) (at 3) (each .rawLogs) in
+            let e5 = q5 ∙ column-listed (λ (c : Cell). c .parent) (λ k. getD ws (headWords + 7 * k) 0 / 2048 % 32) (b .parents) (λ k. refl) (each .parents) in
+            let e6 = q6 ∙ column-listed (λ (c : Cell). c .score) (λ k. floatAt ws (headWords + 5 + 7 * k)) (b .scores) (at 5) (each .scores) in
+            let e7 = q7 ∙ entries-listed nan (readRow ws .distances) (b .distances) (λ k. floatAt ws (headWords + 7 * count + 1 + 2 * k)) (e ∙ sym row-number) d (λ k i. float-distance nan k (omega arith)) in
             rw row-fits (rw (e1, e2, e3, e4, e5, e6, e7))
 
 -- ---- a row at its place in the journal

@@ -17,8 +17,8 @@ use Rattle.binary64.specs.Values.{pzero}
 use Rattle.binary64.specs.Ranges.{inRange}
 use Rattle.journal.specs.Row.{Cell, Row, noParent, noCell, rowSize, cellOf, scoreOf, scores, predecessor, sizeOf}
 use Rattle.journal.specs.Ranges.{rowLimit, lowestScore, parentOk, scoreOk, cellOk}
-use Rattle.journal.specs.Record.{recordOf, recordLength, readRow}
-use Rattle.journal.specs.Journal.{words}
+use Rattle.journal.specs.Record.{headWords, recordLength, readRow}
+use Rattle.journal.specs.Journal.{words, predecessorPlace, recordOn}
 use Rattle.journal.specs.WellFormed.{Obey}
 use Rattle.journal.proofs.Lists.{all-at, each-at, each-intro}
 use Rattle.journal.proofs.Rules.{CellRules, cell-rules, row-rules}
@@ -63,9 +63,9 @@ module _ (r : Row) (rs : List Row) (o : Obey (r ∷ rs)) where
       (each-intro (λ (c : Cell). T (le (c .score) pzero)) (r .cells) noCell (λ k l. score-low (length rs) (cellOf r k .score) (rules k l .score))) (unfold le in tt)
 
   -- its record holds its candidates
-  pub obey-room : 1 + 7 * rowSize r ≤ length (recordOf r)
+  pub obey-room : headWords + 7 * rowSize r ≤ length (recordOn rs r)
   unfolding recordLength
-  obey-room = omega (arith, length-record r (o .0 .0 .number))
+  obey-room = omega (arith, length-record (predecessorPlace rs) r (o .0 .0 .number))
 
   -- a parent is a candidate of the latest earlier row that scores, or none
   pub obey-parent : (i : ℕ) → i < rowSize r → (cellOf r i .parent ≡ noParent → ⊥) → cellOf r i .parent < sizeOf (predecessor rs)
@@ -154,7 +154,7 @@ module _ (s : List ℕ) (b : Back) (h : Reached s b) (left : 0 < b .rows) where
   pub step-stands : RecordInRange (drop (b .end - back s (b .end)) s)
   step-stands = record { room = room; score = λ i. rw step-row (obey-low here earlier obeys i) }
     where
-      room : 1 + 7 * rowSize (readRow (drop (b .end - back s (b .end)) s)) ≤ length (drop (b .end - back s (b .end)) s)
+      room : headWords + 7 * rowSize (readRow (drop (b .end - back s (b .end)) s)) ≤ length (drop (b .end - back s (b .end)) s)
       room =
           rw (step-row, length-drop (b .end - back s (b .end)) s)
           (omega (arith, step-place, obey-room here earlier obeys, row-inside s (rowsIn s) (h .reads) passed here earlier split-at))

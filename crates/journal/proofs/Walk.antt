@@ -27,7 +27,8 @@ use Rattle.journal.proofs.Stores.{take-rest}
 
 -- ---- the predecessor
 
-latest-size : (rs : List Row) → candidatesOf (latestOf rs) ≡ sizeOf (predecessor rs)
+-- its candidates
+pub latest-size : (rs : List Row) → candidatesOf (latestOf rs) ≡ sizeOf (predecessor rs)
 unfolding latestOf predecessor
 latest-size [] = refl
 latest-size (r ∷ rs) = go (scores r) (latest-size rs)
@@ -37,7 +38,8 @@ latest-size (r ∷ rs) = go (scores r) (latest-size rs)
     go true ih = refl
     go false ih = ih
 
-latest-place : (rs : List Row) → placeOf (latestOf rs) ≡ predecessorPlace rs
+-- its place, which is among the words
+pub latest-place : (rs : List Row) → placeOf (latestOf rs) ≡ predecessorPlace rs
 unfolding latestOf predecessorPlace
 latest-place [] = refl
 latest-place (r ∷ rs) = go (scores r) (latest-place rs)
@@ -47,7 +49,6 @@ latest-place (r ∷ rs) = go (scores r) (latest-place rs)
     go true ih = refl
     go false ih = ih
 
--- it stands among the words
 pub place-inside : (rs : List Row) → predecessorPlace rs ≤ length (words rs)
 unfolding words predecessorPlace
 place-inside [] = omega arith
