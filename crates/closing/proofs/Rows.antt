@@ -10,7 +10,7 @@ use lib.Seq.{drop-cons}
 use lib.Ieee.{Float, nan}
 use Rattle.journal.specs.Row.{Cell, noCell, rowSize, cellOf}
 use Rattle.journal.specs.Record.{headWords, floatAt, readDistance, recordLength, readRow}
-use Rattle.journal.specs.Journal.{words}
+use Rattle.journal.specs.Journal.{words, predecessorPlace}
 use Rattle.journal.specs.inner.Strike.{RowsAtLeast, endRead, endOf}
 use Rattle.journal.specs.inner.Check.{survey}
 use Rattle.journal.specs.declared.check.Predecessor.{Predecessor}
@@ -207,7 +207,7 @@ module _ (s : List ℕ) {rows used : ℕ} {p : Predecessor} (e : survey s ≡ We
         few = rw row-here (obeys .0 .0 .few);
         few-before = rw row-here (obeys .0 .0 .few-before);
         room = rw (row-here, length-drop place s)
-            (omega (arith, placed, length-record (rowNumber (surveyed .rows) n) (obeys .0 .0 .number), row-inside s (surveyed .rows) (surveyed .reads) k (rowNumber (surveyed .rows) n) (drop (rows - n) (surveyed .rows)) split));
+            (omega (arith, placed, length-record (predecessorPlace (drop (rows - n) (surveyed .rows))) (rowNumber (surveyed .rows) n) (obeys .0 .0 .number), row-inside s (surveyed .rows) (surveyed .reads) k (rowNumber (surveyed .rows) n) (drop (rows - n) (surveyed .rows)) split));
       }
 
       pub row-reading : (b : RowBuffers) → reading s n b ≡ rowFitted b (readRow (drop place s))

@@ -1,9 +1,10 @@
 -- `closing::row::copy_row` meets its contract. Assumes nothing.
 use mathlib.Core.Path.{refl}
-use Prim.Native.Nat.{_%_, _≤_}
+use Prim.Native.Nat.{_+_, _%_, _≤_}
 use native.Mathlib.Omega.{arith}
 use lib.ListN.{getD}
 use borrow.Author.Needs.{needs}
+use Rattle.journal.specs.Record.{headWords}
 use Rattle.closing.specs.Row.{RowBuffers, rowBuffersOf, candidateRoom, rowAnswer, filled}
 use Rattle.closing.proofs.Rows.{same-room, Rooms, rooms, some-words, fields-stand, floats-stand, distances-stand, row-longer, distances-longer, row-answer, row-filled}
 use Rattle.closing.proofs.row.copy_row.Statement.{statement}
@@ -61,26 +62,38 @@ returns-2 c = let e = distances-longer (c .before .before .before .before .befor
 copy-fields-requires : tie.Need-copy-fields-requires
 copy-fields-requires c κs = fields-stand (c .before .before .before .before .before .before .before .before .before .before .before .before .before .before .before .before .before .before .before .args .words .now) (c .before .before .before .before .before .before .before .before .before .before .before .before .before .before .before .before .before .before .before .pre) 1 1024 _ (omega arith) (omega arith) (each (c .before .before) .elements)
 
+add-copy-floats : tie.Need-add-copy-floats
+add-copy-floats c = search needs
+
 copy-floats-requires : tie.Need-copy-floats-requires
-copy-floats-requires c κs = floats-stand (c .before .before .before .before .before .before .before .before .before .before .before .before .before .before .before .before .before .before .before .before .before .before .before .args .words .now) (c .before .before .before .before .before .before .before .before .before .before .before .before .before .before .before .before .before .before .before .before .before .before .before .pre) 2 _ (omega arith) (each (c .before .before .before .before .before .before) .intrinsics)
+copy-floats-requires c κs = floats-stand (c .before .before .before .before .before .before .before .before .before .before .before .before .before .before .before .before .before .before .before .before .before .before .before .args .words .now) (c .before .before .before .before .before .before .before .before .before .before .before .before .before .before .before .before .before .before .before .before .before .before .before .pre) (headWords + 1) _ (omega arith) (each (c .before .before .before .before .before .before) .intrinsics)
 
 copy-fields-requires-2 : tie.Need-copy-fields-requires-2
 copy-fields-requires-2 c κs = fields-stand (c .before .before .before .before .before .before .before .before .before .before .before .before .before .before .before .before .before .before .before .before .before .before .before .before .before .before .before .args .words .now) (c .before .before .before .before .before .before .before .before .before .before .before .before .before .before .before .before .before .before .before .before .before .before .before .before .before .before .before .pre) 1024 2 _ (omega arith) (omega arith) (each (c .before .before .before .before .before .before .before .before .before .before) .near)
 
+add-copy-floats-2 : tie.Need-add-copy-floats-2
+add-copy-floats-2 c = search needs
+
 copy-floats-requires-2 : tie.Need-copy-floats-requires-2
-copy-floats-requires-2 c κs = floats-stand (c .before .before .before .before .before .before .before .before .before .before .before .before .before .before .before .before .before .before .before .before .before .before .before .before .before .before .before .before .before .before .before .args .words .now) (c .before .before .before .before .before .before .before .before .before .before .before .before .before .before .before .before .before .before .before .before .before .before .before .before .before .before .before .before .before .before .before .pre) 4 _ (omega arith) (each (c .before .before .before .before .before .before .before .before .before .before .before .before .before .before) .rawLogs)
+copy-floats-requires-2 c κs = floats-stand (c .before .before .before .before .before .before .before .before .before .before .before .before .before .before .before .before .before .before .before .before .before .before .before .before .before .before .before .before .before .before .before .args .words .now) (c .before .before .before .before .before .before .before .before .before .before .before .before .before .before .before .before .before .before .before .before .before .before .before .before .before .before .before .before .before .before .before .pre) (headWords + 3) _ (omega arith) (each (c .before .before .before .before .before .before .before .before .before .before .before .before .before .before) .rawLogs)
 
 copy-fields-requires-3 : tie.Need-copy-fields-requires-3
 copy-fields-requires-3 c κs = fields-stand (c .before .before .before .before .before .before .before .before .before .before .before .before .before .before .before .before .before .before .before .before .before .before .before .before .before .before .before .before .before .before .before .before .before .before .before .args .words .now) (c .before .before .before .before .before .before .before .before .before .before .before .before .before .before .before .before .before .before .before .before .before .before .before .before .before .before .before .before .before .before .before .before .before .before .before .pre) 2048 32 _ (omega arith) (omega arith) (each (c .before .before .before .before .before .before .before .before .before .before .before .before .before .before .before .before .before .before) .parents)
 
+add-copy-floats-3 : tie.Need-add-copy-floats-3
+add-copy-floats-3 c = search needs
+
 copy-floats-requires-3 : tie.Need-copy-floats-requires-3
-copy-floats-requires-3 c κs = floats-stand (c .before .before .before .before .before .before .before .before .before .before .before .before .before .before .before .before .before .before .before .before .before .before .before .before .before .before .before .before .before .before .before .before .before .before .before .before .before .before .before .args .words .now) (c .before .before .before .before .before .before .before .before .before .before .before .before .before .before .before .before .before .before .before .before .before .before .before .before .before .before .before .before .before .before .before .before .before .before .before .before .before .before .before .pre) 6 _ (omega arith) (each (c .before .before .before .before .before .before .before .before .before .before .before .before .before .before .before .before .before .before .before .before .before .before) .scores)
+copy-floats-requires-3 c κs = floats-stand (c .before .before .before .before .before .before .before .before .before .before .before .before .before .before .before .before .before .before .before .before .before .before .before .before .before .before .before .before .before .before .before .before .before .before .before .before .before .before .before .args .words .now) (c .before .before .before .before .before .before .before .before .before .before .before .before .before .before .before .before .before .before .before .before .before .before .before .before .before .before .before .before .before .before .before .before .before .before .before .before .before .before .before .pre) (headWords + 5) _ (omega arith) (each (c .before .before .before .before .before .before .before .before .before .before .before .before .before .before .before .before .before .before .before .before .before .before) .scores)
 
 mul-copy-floats : tie.Need-mul-copy-floats
 mul-copy-floats c = search needs
 
-add-copy-floats : tie.Need-add-copy-floats
-add-copy-floats c = search needs
+add-copy-floats-4 : tie.Need-add-copy-floats-4
+add-copy-floats-4 c = search needs
+
+add-copy-floats-5 : tie.Need-add-copy-floats-5
+add-copy-floats-5 c = search needs
 
 copy-floats-requires-4 : tie.Need-copy-floats-requires-4
 copy-floats-requires-4 c κs = distances-stand (c .before .before .before .before .before .before .before .before .before .before .before .before .before .before .before .before .before .before .before .before .before .before .before .before .before .before .before .before .before .before .before .before .before .before .before .before .before .before .before .before .before .before .before .args .words .now) (c .before .before .before .before .before .before .before .before .before .before .before .before .before .before .before .before .before .before .before .before .before .before .before .before .before .before .before .before .before .before .before .before .before .before .before .before .before .before .before .before .before .before .before .pre) _ (c .before .before .before .before .before .before .before .before .before .before .before .before .before .before .before .before .before .before .before .before .before .before .before .before .before .before .before .before .before .before .before .before .distance-count .ensures .0) (c .before .before .before .before .before .before .before .before .before .before .before .before .before .before .before .before .before .before .before .before .before .before .before .before .before .if2 .left)
@@ -126,13 +139,17 @@ copy-row-spec =
     returns
     returns-2
     copy-fields-requires
+    add-copy-floats
     copy-floats-requires
     copy-fields-requires-2
+    add-copy-floats-2
     copy-floats-requires-2
     copy-fields-requires-3
+    add-copy-floats-3
     copy-floats-requires-3
     mul-copy-floats
-    add-copy-floats
+    add-copy-floats-4
+    add-copy-floats-5
     copy-floats-requires-4
     same-length
     same-length-2
