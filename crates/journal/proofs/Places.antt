@@ -1,19 +1,23 @@
--- Where the rows of a journal stand: at its place a row is read back, and the predecessor is at the place that check 7 finds. Assumes nothing.
+-- Where the rows of a journal stand: at its place a row is read back, and the predecessor is at the place that check 7 finds and the row names. Assumes nothing.
 use Prim.Native.Nat.{ℕ, suc, _+_, _≤_}
 use native.Mathlib.Omega.{arith}
-use mathlib.Core.Path.{_≡_, refl, ap, _∙_, subst}
+use native.Mathlib.Numerals.{add-one}
+use mathlib.Core.Path.{_≡_, refl, sym, ap, _∙_, subst}
 use mathlib.Core.Bool.{Bool, true, false, cond}
 use mathlib.Core.List.{List, [], _∷_, _++_, append-assoc}
 use mathlib.Core.Option.{none, some}
-use lib.ListN.{length, drop, length-append}
-use lib.Seq.{drop-at}
+use lib.ListN.{length, getD, drop, length-append}
+use lib.Seq.{drop-at, drop-drop}
 use Rattle.journal.specs.Row.{Row, rowSize, scores, predecessor}
-use Rattle.journal.specs.Record.{usedWord, readRow}
+use Rattle.journal.specs.Record.{predecessorWord, usedWord, recordOf, readRow}
 use Rattle.journal.specs.Journal.{words, predecessorPlace, recordOn, readJournal}
-use Rattle.journal.specs.WellFormed.{Obey}
-use Rattle.journal.specs.inner.Check.{latestOf}
+use Rattle.journal.specs.WellFormed.{Obey, Names}
+use Rattle.journal.specs.inner.Check.{latestOf, placeOf}
+use Rattle.journal.specs.declared.check.Predecessor.{Predecessor}
 use Rattle.journal.specs.declared.check.Predecessor.the-variants.{Nothing, At}
 use Rattle.journal.proofs.Reading.{words-drop, read-row}
+use Rattle.journal.proofs.Tests.{drop-first}
+use Rattle.journal.proofs.Walk.{latest-place}
 use Rattle.journal.proofs.Ends.{formed, obey-drop, words-cons, journal-split}
 
 -- ---- a row at its place
@@ -77,3 +81,33 @@ latest-none (r ∷ rs) e = go (scores r) (latest-none rs) e
     go : (b : Bool) → (latestOf rs ≡ Nothing → predecessor rs ≡ none) → cond b (At (suc (length (words rs))) (length rs) (rowSize r)) (latestOf rs) ≡ Nothing → cond b (some r) (predecessor rs) ≡ none
     go true ih k = let z : _≡_ {A = ℕ} 0 1 = cc in absurd (omega arith)
     go false ih k = ih k
+
+-- ---- what a row names
+
+module _ (s : List ℕ) (rs : List Row) (e : readJournal s ≡ some rs) (k : ℕ) (q : Row) (qs : List Row) (d : drop k rs ≡ q ∷ qs) where
+  -- past its head word
+  second-word : getD s (suc (length (words qs)) + 1) 0 ≡ predecessorWord (predecessorPlace qs)
+  second-word =
+      let here = suc (length (words qs)) in
+      let split = split-at s rs e k q qs d in
+      sym (drop-first (here + 1) s) ∙ ap (λ (l : List ℕ). getD l 0 0) (sym (drop-drop 1 here s) ∙ ap (drop 1) (split .1)) ∙ (unfold recordOf in refl)
+
+  -- a row among those before it
+  earlier-row : (m : ℕ) (p : Row) (ps : List Row) → drop m qs ≡ p ∷ ps → readRow (drop (suc (length (words ps))) s) ≡ p
+  earlier-row m p ps f =
+      let past : drop (suc k) rs ≡ qs = sym (drop-drop 1 k rs ∙ rw add-one) ∙ ap (drop 1) d in
+      let stands : drop (suc k + m) rs ≡ p ∷ ps = sym (drop-drop m (suc k) rs) ∙ ap (drop m) past ∙ f in
+      row-at s rs e (suc k + m) p ps stands
+
+  -- its second word names its predecessor
+  pub predecessor-named : Names s (getD s (suc (length (words qs)) + 1) 0) (predecessor qs)
+  predecessor-named = go (latestOf qs) refl
+    where
+      placed : {l : Predecessor} → latestOf qs ≡ l → getD s (suc (length (words qs)) + 1) 0 ≡ predecessorWord (placeOf l)
+      placed {l} f = second-word ∙ ap predecessorWord (sym (latest-place qs) ∙ ap placeOf f)
+
+      go : (l : Predecessor) → latestOf qs ≡ l → Names s (getD s (suc (length (words qs)) + 1) 0) (predecessor qs)
+      go Nothing f = rw (latest-none qs f) (placed f)
+      go (At place row candidates) f =
+          let l = latest-some qs place row candidates f in
+          rw (l .is) (place, omega (arith, l .placed), placed f, ap (λ (n : ℕ). readRow (drop n s)) (l .placed) ∙ earlier-row (l .after) (l .latest) (l .earlier) (l .stands))

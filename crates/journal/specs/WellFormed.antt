@@ -2,11 +2,13 @@
 use Prim.Native.Nat.{ℕ, _*_, _<_, _≤_}
 use mathlib.Core.Path.{_≡_}
 use mathlib.Core.List.{List, [], _∷_, _++_}
+use mathlib.Core.Option.{Option, none, some}
 use lib.Dec.{T}
-use lib.ListN.{length}
+use lib.ListN.{length, drop}
 use lib.Ieee.{Float, binary64, fits}
 use Rattle.journal.specs.Row.{Cell, Row, rowSize, predecessor, sizeOf}
 use Rattle.journal.specs.Ranges.{candidateLimit, elementLimit, rowLimit}
+use Rattle.journal.specs.Record.{predecessorWord, readRow}
 use Rattle.journal.specs.Journal.{journal, rowOk}
 
 abbrev pub Each : {A : Type 0} → (A → Type 0) → List A → Type 0
@@ -37,6 +39,11 @@ pub record RowFits (r : Row) : Type 0 where
 abbrev pub Obey : List Row → Type 0
 Obey [] = Unit {0}
 Obey (r ∷ rs) = (RowFits r × T (rowOk (sizeOf (predecessor rs)) (length rs) r)) × Obey rs
+
+-- a word of kind 7 in the words s names this predecessor: a place where it is read from, or 0 for none
+abbrev pub Names : List ℕ → ℕ → Option Row → Type 0
+Names s w none = w ≡ predecessorWord 0
+Names s w (some p) = (place : ℕ) × (0 < place) × (w ≡ predecessorWord place) × (readRow (drop place s) ≡ p)
 
 -- the words s are well formed, with these rows
 abbrev pub WellFormed : List ℕ → List Row → Type 0
