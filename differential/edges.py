@@ -135,38 +135,62 @@ def float_words(at, value):
     return word(at, bits(value) >> 32) + word(at + 1, bits(value) & 0xFFFFFFFF)
 
 
-# Where the rows of DRIVE begin, and its used words.
-ROWS = (1, 11, 32)
-USED = 46
+def places(counts):
+    """Where the records of rows with these candidates and predecessor candidates begin, and where the last of them ends."""
+    at = [1]
+    for c, p in counts:
+        at.append(at[-1] + 7 * c + 2 * c * p + 4)
+    return at
+
+
+# The candidates and predecessor candidates of DRIVE's rows, where these begin, and its used words.
+COUNTS = ((1, 0), (2, 1), (1, 2))
+*ROWS, USED = places(COUNTS)
+ENDS = (*ROWS[1:], USED)
+
+
+def cell(row, number):
+    """Where a candidate of DRIVE begins: one word, then its intrinsic, raw log and score."""
+    return ROWS[row] + 2 + 7 * number
+
+
+def distance(row, number):
+    """Where a distance of DRIVE is, behind their count."""
+    return cell(row, COUNTS[row][0]) + 1 + 2 * number
+
+
+CELLS = (cell(0, 0), cell(1, 0), cell(1, 1), cell(2, 0))
 
 
 def damages():
     """Words poked into the journal of DRIVE."""
     heads = (ROWS[0], 0x10000001), (ROWS[1], 0x10000022), (ROWS[2], 0x10000041)
-    yield from ((0, value) for value in (0x50000000 + USED, 0x40000000 + USED, 0x50000000, 0x50000001, 0x50000000 + 32, 0x50000000 + USED - 1))
-    yield from ((0, value) for value in (0x50000000 + USED + 1, 0x50000064, 0x50000065, 0x5FFFFFFF, 0x0000002E, 0xFFFFFFFF))
+    yield from ((0, value) for value in (0x50000000 + USED, 0x40000000 + USED, 0x50000000, 0x50000001, 0x50000000 + ROWS[2], 0x50000000 + USED - 1))
+    yield from ((0, value) for value in (0x50000000 + USED + 1, 0x50000064, 0x50000065, 0x5FFFFFFF, USED, 0xFFFFFFFF))
     for at, head in heads:
         yield from ((at, value) for value in (head ^ 0x10000000, head + 1, head + 0x20, head | 0x400, head | 0x08000000, head & ~0x1F))
     yield from ((ROWS[2], 0x10000000 | 17), (ROWS[2], 0x10000000))
-    for at, named in ((2, 31 << 11), (12, 0), (19, 1 << 11), (33, 0)):
+    for at, named in zip(CELLS, (31 << 11, 0, 1 << 11, 0)):
         word_of = 0x20000000 | named
         yield from ((at, value) for value in (word_of | 1023, word_of | 1024, word_of | 0x10000, word_of ^ 0x20000000))
         yield from ((at, 0x20000000 | parent << 11 | 1) for parent in (0, 1, 2, 30, 31))
-    yield from ((at, value) for at, count in ((9, 0), (26, 2), (40, 2)) for value in (0x30000000 + count + 1, 0x30000200 + count, 0x40000000 + count))
-    yield from ((at, 0x40000000 + length) for at, right in ((10, 10), (31, 21), (45, 14)) for length in (right - 1, right + 1, right + 0x1000000))
+    for row, (c, p) in enumerate(COUNTS):
+        yield from ((cell(row, c), value) for value in (0x30000000 + c * p + 1, 0x30000200 + c * p, 0x40000000 + c * p))
+    for start, end in zip(ROWS, ENDS):
+        yield from ((end - 1, 0x40000000 + end - start + off) for off in (-1, 1, 0x1000000))
 
 
 def float_damages():
     """Floats poked into it: intrinsics, raw logs, scores, distances."""
-    for at in (3, 13, 34):
-        yield from ((at, value) for value in (0.0, 1.0, -0.0, above(1.0), below(0.0), NAN))
-    for at in (5, 15, 36):
-        yield from ((at, value) for value in (-INFINITY, -745.0, 0.0, -0.0, below(-745.0), above(0.0), NAN, INFINITY))
-    for row, at in ((0, 7), (1, 17), (1, 24), (2, 38)):
+    for row in range(3):
+        yield from ((cell(row, 0) + 1, value) for value in (0.0, 1.0, -0.0, above(1.0), below(0.0), NAN))
+    for row in range(3):
+        yield from ((cell(row, 0) + 3, value) for value in (-INFINITY, -745.0, 0.0, -0.0, below(-745.0), above(0.0), NAN, INFINITY))
+    for row, at in zip((0, 1, 1, 2), CELLS):
         least = -1e13 * (row + 1)
-        yield from ((at, value) for value in (-INFINITY, least, 0.0, -0.0, below(least), above(0.0), NAN, INFINITY))
-    for at in (27, 29, 41, 43):
-        yield from ((at, value) for value in (0.0, -0.0, 20100000.0, above(20100000.0), below(0.0), NAN, INFINITY))
+        yield from ((at + 5, value) for value in (-INFINITY, least, 0.0, -0.0, below(least), above(0.0), NAN, INFINITY))
+    for row, number in ((1, 0), (1, 1), (2, 0), (2, 1)):
+        yield from ((distance(row, number), value) for value in (0.0, -0.0, 20100000.0, above(20100000.0), below(0.0), NAN, INFINITY))
 
 
 def journals():
@@ -178,6 +202,41 @@ def journals():
         yield DRIVE + word(at, value) + "words\n" + "".join(JOURNAL_CALLS)
     for at, value in float_damages():
         yield DRIVE + float_words(at, value) + "".join(JOURNAL_CALLS)
+
+
+# Rows that score and rows that do not: before the first scoring row one whose logs are minus infinity and an empty one, then two empty ones in a
+# tunnel, a row behind it, a broken one, and an empty one. Their candidates and predecessor candidates, and their predecessors.
+TUNNEL = (
+    "journal 100\n" + feed(candidate(raw_log=-INFINITY)) + feed() + feed(candidate()) + feed() + feed()
+    + feed(candidate(1, near=0), distances=(100.0,)) + feed(candidate(2, near=0), distances=(100.0,)) + feed()
+)
+*TUNNEL_ROWS, _ = places(((1, 0), (0, 0), (1, 0), (0, 0), (0, 0), (1, 1), (1, 1), (0, 0)))
+PREDECESSORS = (None, None, None, 2, 2, 2, 5, 6)
+
+
+def misnamings():
+    """Of each row of TUNNEL: where it names its predecessor, the right word, and each wrong one: an offset one off, that of the row before where it
+    is not the predecessor, 0 where there is one, the row's own offset, another kind."""
+    for row, predecessor in enumerate(PREDECESSORS):
+        at, right = TUNNEL_ROWS[row], 0 if predecessor is None else TUNNEL_ROWS[predecessor]
+        offsets = {right + 1, (right - 1) % 2**28, TUNNEL_ROWS[row - 1] if row > 0 else 0, 0, at} - {right}
+        yield at + 1, 0x70000000 + right, [0x70000000 + offset for offset in sorted(offsets)] + [0x60000000 + right]
+
+
+def predecessors():
+    """Check 7 on the predecessor that a row names. Each word is put right again, so that it alone is refused."""
+    yield title(7, "the predecessors of a drive through a tunnel, and others named in their places")
+    yield network() + SETTINGS + TUNNEL + "words\nclose\nrow 4\nrow 5\nsteps 5\nrow 6\nsteps 6\nsegments\n"
+    for at, right, wrong in misnamings():
+        yield from (word(at, value) + "".join(JOURNAL_CALLS[:-1]) + word(at, right) for value in wrong)
+    yield "words\n" + "".join(JOURNAL_CALLS[:-1])
+    yield title(7, "rows that a poked score makes scoring or not: the rows behind them must name another predecessor")
+    yield TUNNEL + float_words(TUNNEL_ROWS[5] + 7, -INFINITY) + "".join(JOURNAL_CALLS[:-1])
+    yield word(TUNNEL_ROWS[6] + 1, 0x70000000 + TUNNEL_ROWS[2]) + "words\nsteps 6\n" + "".join(JOURNAL_CALLS)
+    yield TUNNEL + word(0, 0x50000000 + TUNNEL_ROWS[2]) + float_words(TUNNEL_ROWS[0] + 7, -1.0) + "".join(JOURNAL_CALLS[:-1])
+    yield word(TUNNEL_ROWS[1] + 1, 0x70000000 + TUNNEL_ROWS[0]) + "words\n" + "".join(JOURNAL_CALLS)
+    yield title(7, "the predecessor of a row that is fed after a strike")
+    yield "".join(TUNNEL + f"strike {rows}\n" + feed() + "words\n" for rows in (1, 2, 3, 4, 5, 6, 8))
 
 
 # ---- fixes
@@ -209,14 +268,14 @@ def fixes():
     yield DRIVE + "short distances 1\n" + feed(candidate(), candidate(), distances=(1.0, 1.0))
     yield "journal 400\n" + feed(candidate(), distances=(1.0,))
     yield title(12, "the last word of a journal")
-    for room in (10, 11):
+    for room in (11, 12):
         yield f"journal {room}\n" + feed(candidate()) + "words\n"
-    for room in (0, 1, 3, 4):
+    for room in (0, 1, 4, 5):
         yield f"journal {room}\nopen\n" + feed()
     yield title("8 to 12", "all at once, then without the first of them, and so on")
     crowd = (candidate(),) * 17
     for fix in (feed(*crowd, distances=(NAN,)), feed(candidate(3), distances=(NAN,)), feed(candidate(), distances=(NAN,)), feed(candidate())):
-        yield "journal 10\n" + fix
+        yield "journal 11\n" + fix
 
 
 def rows():
@@ -266,4 +325,4 @@ def thresholds():
 
 
 def cases():
-    return "".join(part for kind in (networks, limits, settings, journals, fixes, rows, lists, thresholds) for part in kind())
+    return "".join(part for kind in (networks, limits, settings, journals, predecessors, fixes, rows, lists, thresholds) for part in kind())

@@ -62,7 +62,7 @@ pub fn fix(fix: &Fix, rows: &[Row], elements: usize, free: usize) -> Option<u32>
 
 /// The words of a fix's record.
 pub fn record_length(fix: &Fix) -> usize {
-    7 * fix.candidates.len() + 2 * fix.distances.len() + 3
+    7 * fix.candidates.len() + 2 * fix.distances.len() + 4
 }
 
 /// Check 14.

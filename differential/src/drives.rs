@@ -1,7 +1,7 @@
 //! Makes drives on a network, questions about routes, and lists to collapse, as case text.
 
 use crate::document::Document;
-use crate::journal::{predecessor, Row};
+use crate::journal::{place, predecessor, tag, Row};
 use crate::language::{Candidate, Fix, Network, Segment, Settings, Words};
 use crate::networks::{self, float};
 use crate::random::Random;
@@ -266,8 +266,26 @@ fn leg(random: &mut Random, script: &mut Script, habits: &Habits) {
     ask(random, script, habits);
 }
 
-/// Changes words of the journal, most often one bit, and asks again.
-fn hurt(random: &mut Random, script: &mut Script, habits: &Habits) {
+/// What check 7 refuses as the word of a row's predecessor: an offset one off, that of the row before where it is not the predecessor, 0 where there
+/// is one, the row's own offset, another kind.
+fn misnamings(rows: &[Row], row: usize) -> Vec<u32> {
+    let right = place(&rows[..row]);
+    let before = row.checked_sub(1).map_or(0, |row| rows[row].at);
+    let offsets = [right + 1, right.wrapping_sub(1) & 0x0FFF_FFFF, before, 0, rows[row].at];
+    let wrong = offsets.into_iter().filter(|&offset| offset != right).map(|offset| tag(7, offset));
+    wrong.chain([tag(6, right)]).collect()
+}
+
+/// Changes the predecessor that one of the rows names, half the time that of an empty row if there is one.
+fn misname(random: &mut Random, script: &mut Script, rows: &[Row]) {
+    let empty: Vec<usize> = (0..rows.len()).filter(|&row| rows[row].cells.is_empty()).collect();
+    let row = if !empty.is_empty() && random.chance(50) { random.pick(&empty) } else { random.below(rows.len() as u32) as usize };
+    let word = random.pick(&misnamings(rows, row));
+    script.say(&format!("poke {} {word:08X}", rows[row].at + 1));
+}
+
+/// Changes words of the journal, most often one bit.
+fn damage(random: &mut Random, script: &mut Script) {
     for _ in 0..random.between(1, 3) {
         let journal = script.session.journal();
         let used = (journal[0] & 0x0FFF_FFFF).min(journal.len() as u32);
@@ -281,6 +299,16 @@ fn hurt(random: &mut Random, script: &mut Script, habits: &Habits) {
             _ => word ^ 1 << random.below(32),
         };
         script.say(&format!("poke {at} {poked:08X}"));
+    }
+}
+
+/// Changes the journal and asks again.
+fn hurt(random: &mut Random, script: &mut Script, habits: &Habits) {
+    let rows = script.rows();
+    if !rows.is_empty() && random.chance(30) {
+        misname(random, script, &rows);
+    } else {
+        damage(random, script);
     }
     let next = fix(random, habits, script);
     ask(random, script, habits);
@@ -304,7 +332,7 @@ pub fn drive(random: &mut Random, out: &mut String, network: &Network) {
     if random.chance(10) {
         leg(random, &mut script, &habits);
     }
-    if random.chance(5) {
+    if random.chance(7) {
         hurt(random, &mut script, &habits);
     }
 }

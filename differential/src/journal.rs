@@ -9,9 +9,10 @@ pub struct Cell {
     pub parent: Option<usize>,
 }
 
-/// A fix with the scores and parents of its candidates.
+/// A fix with the scores and parents of its candidates; its head word stands at the word `at` of the journal.
 #[derive(Debug, Clone)]
 pub struct Row {
+    pub at: usize,
     pub fix: Fix,
     pub cells: Vec<Cell>,
 }
@@ -21,11 +22,11 @@ impl Row {
         self.cells.iter().any(|cell| cell.score != f64::NEG_INFINITY)
     }
 
-    /// The words of the record.
-    pub fn words(&self) -> Vec<u32> {
+    /// The words of the record of a row whose predecessor stands at `place`.
+    pub fn words(&self, place: usize) -> Vec<u32> {
         let halves = |value: f64| [(value.to_bits() >> 32) as u32, value.to_bits() as u32];
         let Fix { candidates, distances } = &self.fix;
-        let mut words = vec![tag(1, self.fix.predecessors() << 5 | candidates.len())];
+        let mut words = vec![tag(1, self.fix.predecessors() << 5 | candidates.len()), tag(7, place)];
         for (candidate, cell) in candidates.iter().zip(&self.cells) {
             let named = cell.parent.unwrap_or(31) << 11 | (candidate.near as usize) << 10 | candidate.element as usize;
             words.push(tag(2, named));
@@ -47,6 +48,11 @@ pub fn predecessor(rows: &[Row]) -> Option<usize> {
     rows.iter().rposition(Row::scores)
 }
 
+/// Where the head word of the latest row with a finite score stands; 0 if there is none.
+pub fn place(rows: &[Row]) -> usize {
+    predecessor(rows).map_or(0, |row| rows[row].at)
+}
+
 /// How many words word 0 says are used, if it is of its kind and they lie within the slice.
 pub fn used(journal: &[u32]) -> Option<usize> {
     let word = *journal.first()?;
@@ -57,20 +63,24 @@ pub fn used(journal: &[u32]) -> Option<usize> {
 /// The rows of a well-formed journal; none if it is not well formed.
 pub fn read(journal: &[u32]) -> Option<Vec<Row>> {
     let mut rest = journal.get(1..used(journal)?)?;
+    let mut at = 1;
     let mut rows = Vec::new();
     while !rest.is_empty() {
-        let row = read_row(rest, &rows)?;
-        rest = &rest[row.words().len()..];
+        let row = read_row(rest, at, &rows)?;
+        let length = checks::record_length(&row.fix);
+        rest = &rest[length..];
+        at += length;
         rows.push(row);
     }
     (rows.len() <= 65_535).then_some(rows)
 }
 
-/// The first record's row: each field is read from its place, and the words must be those of the row that was read.
-fn read_row(words: &[u32], rows: &[Row]) -> Option<Row> {
+/// The first record's row, whose head word stands at `at`: each field is read from its place, and the words must be those of the row that was read,
+/// on the predecessor that stands among the rows before it.
+fn read_row(words: &[u32], at: usize, rows: &[Row]) -> Option<Row> {
     let count = (words[0] & 31) as usize;
     let before = predecessor(rows).filter(|_| count > 0).map_or(0, |row| rows[row].cells.len());
-    let length = 7 * count + 2 * count * before + 3;
+    let length = 7 * count + 2 * count * before + 4;
     let record = words.get(..length)?;
     let float = |at: usize| f64::from_bits((record[at] as u64) << 32 | record[at + 1] as u64);
     let candidate = |at: usize| Candidate {
@@ -80,11 +90,11 @@ fn read_row(words: &[u32], rows: &[Row]) -> Option<Row> {
         raw_log: float(at + 3),
     };
     let cell = |at: usize| Cell { score: float(at + 5), parent: Some((record[at] >> 11 & 31) as usize).filter(|&parent| parent != 31) };
-    let places = || (0..count).map(|number| 1 + 7 * number);
-    let distances = (0..count * before).map(|number| float(2 + 7 * count + 2 * number)).collect();
+    let places = || (0..count).map(|number| 2 + 7 * number);
+    let distances = (0..count * before).map(|number| float(3 + 7 * count + 2 * number)).collect();
     let fix = Fix { candidates: places().map(candidate).collect(), distances };
-    let row = Row { fix, cells: places().map(cell).collect() };
-    (in_range(&row, rows.len(), before) && row.words() == record).then_some(row)
+    let row = Row { at, fix, cells: places().map(cell).collect() };
+    (in_range(&row, rows.len(), before) && row.words(place(rows)) == record).then_some(row)
 }
 
 fn in_range(row: &Row, number: usize, before: usize) -> bool {

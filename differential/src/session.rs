@@ -1,7 +1,7 @@
 //! Performs the commands of a case text and writes the answers. Journal and checks are document 01's; what is computed comes from a `Core`.
 
 use crate::checks;
-use crate::journal::{read, tag, used, Cell, Row};
+use crate::journal::{place, read, tag, used, Cell, Row};
 use crate::language::{bits, Command, Fix, Network, Segment, Settings, Side, Stop, Words};
 use crate::routes::Route;
 use std::collections::HashMap;
@@ -262,7 +262,7 @@ impl<C: Core> Session<C> {
         refuse(checks::fix(&fix, &rows, network.elements.len(), self.journal.len() - at))?;
         let settings = self.settings;
         match self.on(&network, |session| session.core.row(settings, &rows, &fix)) {
-            Ok(cells) => self.store(at, &Row { fix, cells }.words()),
+            Ok(cells) => self.store(at, &Row { at, fix, cells }.words(place(&rows))),
             Err(Unasked) => self.lost = true,
         }
         self.line(format_args!("feed ok"));
@@ -312,7 +312,7 @@ impl<C: Core> Session<C> {
 
     fn row(&mut self, row: usize) -> Result<(), No> {
         let (room, distances) = (self.entries("answer", usize::MAX), self.entries("distances", usize::MAX));
-        let Row { fix, cells } = self.rows()?.get(row).cloned().ok_or(No::Refused(13))?;
+        let Row { fix, cells, .. } = self.rows()?.get(row).cloned().ok_or(No::Refused(13))?;
         refuse_if(cells.len() > room || fix.distances.len() > distances, 15)?;
         self.line(format_args!("row {} {}", fix.candidates.len(), fix.predecessors()));
         for (c, cell) in fix.candidates.iter().zip(cells) {
