@@ -1,6 +1,6 @@
 /* What the calls answer through the header. `calls GROUP` says what differs, and exits with 1 if anything does:
    refusals, each number from a smallest call, which changes nothing; limits, at them and past them; empty, slices without
-   entries; words, the journal of document 01's one fix. */
+   entries; words, the journal of document 01's one fix, and the predecessors that rows name. */
 #include "box.h"
 
 #include <math.h>
@@ -154,12 +154,16 @@ static void refusals(void) {
     REFUSED(lent.journal[0] = 0, read_row(0, 8), BOX_REFUSED_JOURNAL);
     REFUSED(lent.journal[0] = 0, list_steps(0, 8), BOX_REFUSED_JOURNAL);
     REFUSED(lent.journal[0] = 0, build_into(ROOM), BOX_REFUSED_JOURNAL);
+    REFUSED((feed(1, 0), lent.journal[2]++), feed(1, 1), BOX_REFUSED_JOURNAL);
+    REFUSED((feed(1, 0), feed(0, 0), lent.journal[13]++), close_into(8), BOX_REFUSED_JOURNAL);
+    REFUSED((feed(1, 0), feed(0, 0), lent.journal[13]--), strike(0), BOX_REFUSED_JOURNAL);
+    REFUSED((feed(1, 0), feed(0, 0), lent.journal[13] ^= 0x10000000), read_row(0, 8), BOX_REFUSED_JOURNAL);
     REFUSED(AS_IT_IS, feed(BOX_MAX_CANDIDATES + 1, 0), BOX_REFUSED_CANDIDATE_COUNT);
     REFUSED(elements[0] = 3, feed(1, 0), BOX_REFUSED_CANDIDATE);
     REFUSED((feed(1, 0), network.elements = 0), list_steps(0, 8), BOX_REFUSED_CANDIDATE);
     REFUSED((feed(1, 0), network.elements = 0), build_into(ROOM), BOX_REFUSED_CANDIDATE);
     REFUSED(AS_IT_IS, feed(1, 1), BOX_REFUSED_DISTANCES);
-    REFUSED(AS_IT_IS, feed_into(10, 1, 0), BOX_REFUSED_ROOM);
+    REFUSED(AS_IT_IS, feed_into(BOX_RECORD_WORDS(1, 0), 1, 0), BOX_REFUSED_ROOM);
     REFUSED(AS_IT_IS, box_open(lent.journal, 0), BOX_REFUSED_ROOM);
     REFUSED(AS_IT_IS, strike(1), BOX_REFUSED_ROW);
     REFUSED(AS_IT_IS, read_row(0, 8), BOX_REFUSED_ROW);
@@ -194,13 +198,13 @@ static void refusals(void) {
         expect(name " past its limit", call, number); \
     } while (0)
 
-/* 65,535 rows without candidates: three words each. */
+/* 65,535 rows without candidates: four words each. */
 static void row_limit(void) {
-    static uint32_t journal[1 + 3 * (BOX_MAX_ROWS + 1)];
-    static const uint32_t record[3] = {0x10000000, 0x30000000, 0x40000003};
+    static uint32_t journal[1 + 4 * (BOX_MAX_ROWS + 1)];
+    static const uint32_t record[4] = {0x10000000, 0x70000000, 0x30000000, 0x40000004};
     start();
-    for (size_t row = 0; row < BOX_MAX_ROWS; row++) memcpy(journal + 1 + 3 * row, record, sizeof record);
-    journal[0] = 0x50000000 + 1 + 3 * BOX_MAX_ROWS;
+    for (size_t row = 0; row < BOX_MAX_ROWS; row++) memcpy(journal + 1 + 4 * row, record, sizeof record);
+    journal[0] = 0x50000000 + 1 + 4 * BOX_MAX_ROWS;
     size_t words = sizeof journal / sizeof journal[0];
     expect("one row too many", box_feed(BOX_NETWORK(network), beta, scale, journal, words, NULL, 0, NULL, 0, NULL, 0, NULL, 0,
         NULL, 0), BOX_REFUSED_ROW_LIMIT);
@@ -259,24 +263,37 @@ static void empty(void) {
     expect("no segments", count == 0, 1);
     expect("collapse", box_remove_oscillations(NULL, 0, NULL, 0, &count, &second), BOX_DONE);
     expect("no decisions", count == 0 && second == 0, 1);
-    expect("a row without candidates", feed_into(4, 0, 0), BOX_DONE);
-    expect("read", box_read_row(lent.journal, 4, 0, NULL, 0, NULL, 0, NULL, 0, NULL, 0, NULL, 0, NULL, 0, NULL, 0, &count,
+    expect("a row without candidates", feed_into(5, 0, 0), BOX_DONE);
+    expect("read", box_read_row(lent.journal, 5, 0, NULL, 0, NULL, 0, NULL, 0, NULL, 0, NULL, 0, NULL, 0, NULL, 0, &count,
         &second), BOX_DONE);
-    expect("steps", box_list_steps(BOX_NETWORK(network), 1, 1, lent.journal, 4, 0, NULL, 0, NULL, 0, NULL, 0, NULL, 0, NULL, 0,
+    expect("steps", box_list_steps(BOX_NETWORK(network), 1, 1, lent.journal, 5, 0, NULL, 0, NULL, 0, NULL, 0, NULL, 0, NULL, 0,
         &count), BOX_DONE);
     expect("no steps", count == 0 && second == 0, 1);
 }
 
 /* ---- words */
 
+/* Two rows that score, one without candidates, and one more. */
+static void predecessors(void) {
+    enum { FIRST = 1, SECOND = FIRST + BOX_RECORD_WORDS(1, 0), EMPTY = SECOND + BOX_RECORD_WORDS(1, 1),
+        LAST = EMPTY + BOX_RECORD_WORDS(0, 0) };
+    start();
+    expect("feeds", (feed(1, 0), feed(1, 1), feed(0, 0), feed(1, 1)), BOX_DONE);
+    expect("the first row has no predecessor", lent.journal[FIRST + 1], 0x70000000);
+    expect("the second row's predecessor", lent.journal[SECOND + 1], 0x70000000 + FIRST);
+    expect("the empty row's predecessor", lent.journal[EMPTY + 1], 0x70000000 + SECOND);
+    expect("the last row's predecessor", lent.journal[LAST + 1], 0x70000000 + SECOND);
+}
+
 static void words(void) {
-    static const uint32_t document[11] = {
-        0x5000000B, 0x10000001, 0x2000FC00, 0x3FE00000, 0, 0xBFF00000, 0, 0xBFF00000, 0, 0x30000000, 0x4000000A,
+    static const uint32_t document[12] = {
+        0x5000000C, 0x10000001, 0x70000000, 0x2000FC00, 0x3FE00000, 0, 0xBFF00000, 0, 0xBFF00000, 0, 0x30000000, 0x4000000B,
     };
     start();
     expect("feed", feed(1, 0), BOX_DONE);
     expect("document 01's words", memcmp(lent.journal, document, sizeof document) == 0, 1);
-    expect("the word past them", lent.journal[11], 0xEEEEEEEE);
+    expect("the word past them", lent.journal[12], 0xEEEEEEEE);
+    predecessors();
 }
 
 int main(int count, char **arguments) {

@@ -70,16 +70,21 @@ pub fn drive(network: &Network, fixes: usize, count: usize) -> Vec<Fix> {
     (0..fixes).map(one).collect()
 }
 
-/// A journal of so many rows with four candidates each: that of a short drive, with the records after its first repeated. Scores then come
-/// from other rows than those that stand before, which check 7, closing and building do not ask about.
+/// A journal of so many rows with four candidates each: that of a short drive, with the records after its first repeated, each of them naming the
+/// record before it. Scores then come from other rows than those that stand before, which check 7, closing and building do not ask about.
 pub fn long_journal(short: &[u32], rows: usize) -> Vec<u32> {
-    let first = 7 * 4 + 3;
-    let record = 7 * 4 + 2 * 16 + 3;
+    let first = 7 * 4 + 4;
+    let record = 7 * 4 + 2 * 16 + 4;
     let used = (short[0] & 0x0FFF_FFFF) as usize;
     let mut journal = vec![0; 1 + first + (rows - 1) * record];
     journal[0] = 0x5000_0000 | journal.len() as u32;
     journal[1..1 + first].copy_from_slice(&short[1..1 + first]);
     let rest = short[1 + first..used].iter().cycle();
     journal[1 + first..].iter_mut().zip(rest).for_each(|(to, &word)| *to = word);
+    let mut before = 1;
+    for at in (1 + first..journal.len()).step_by(record) {
+        journal[at + 1] = 0x7000_0000 | before as u32;
+        before = at;
+    }
     journal
 }
