@@ -266,20 +266,21 @@ fn leg(random: &mut Random, script: &mut Script, habits: &Habits) {
     ask(random, script, habits);
 }
 
-/// What check 7 refuses as the word of a row's predecessor: an offset one off, that of the row before where it is not the predecessor, 0 where there
-/// is one, the row's own offset, another kind.
+/// What check 7 refuses as the word of a row's predecessor: an offset one off, that of the row before where it is not the predecessor (twice, so that
+/// it is drawn more often), 0 where there is one, the row's own offset, another kind.
 fn misnamings(rows: &[Row], row: usize) -> Vec<u32> {
     let right = place(&rows[..row]);
     let before = row.checked_sub(1).map_or(0, |row| rows[row].at);
-    let offsets = [right + 1, right.wrapping_sub(1) & 0x0FFF_FFFF, before, 0, rows[row].at];
+    let offsets = [right + 1, right.wrapping_sub(1) & 0x0FFF_FFFF, before, before, 0, rows[row].at];
     let wrong = offsets.into_iter().filter(|&offset| offset != right).map(|offset| tag(7, offset));
     wrong.chain([tag(6, right)]).collect()
 }
 
-/// Changes the predecessor that one of the rows names, half the time that of an empty row if there is one.
+/// Changes the predecessor that one of the rows names, half the time that of an empty row or of one behind a row that does not score.
 fn misname(random: &mut Random, script: &mut Script, rows: &[Row]) {
-    let empty: Vec<usize> = (0..rows.len()).filter(|&row| rows[row].cells.is_empty()).collect();
-    let row = if !empty.is_empty() && random.chance(50) { random.pick(&empty) } else { random.below(rows.len() as u32) as usize };
+    let is_rare = |row: &usize| rows[*row].cells.is_empty() || *row > 0 && !rows[row - 1].scores();
+    let rare: Vec<usize> = (0..rows.len()).filter(is_rare).collect();
+    let row = if !rare.is_empty() && random.chance(50) { random.pick(&rare) } else { random.below(rows.len() as u32) as usize };
     let word = random.pick(&misnamings(rows, row));
     script.say(&format!("poke {} {word:08X}", rows[row].at + 1));
 }
