@@ -64,9 +64,10 @@ enum box_status {
 #define BOX_NO_PARENT 31
 #define BOX_DECISION_WORDS 6
 
-/* The words of a row's record: c candidates, on a predecessor of p (0 where the row has no distances). Two head words,
-   the counts and the offset of the predecessor's head word in the journal (0 without one); seven words a candidate;
-   the number of distances and two words each; the record's length. A journal needs one word and those of each row. */
+/* The words of a row's record: c candidates, on a predecessor of p (0 where the row has no distances). They are one for
+   both counts, one for the number of the word at which the predecessor's record begins (0 without a predecessor), seven
+   for each candidate, one for the number of distances, two for each of them, and one for the record's length. A journal
+   needs one word and those of each row. */
 #define BOX_RECORD_WORDS(c, p) (7 * (c) + 2 * (c) * (p) + 4)
 
 #define BOX_STACK_BYTES 131072 /* measured on x86-64 */

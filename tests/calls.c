@@ -154,6 +154,7 @@ static void refusals(void) {
     REFUSED(lent.journal[0] = 0, read_row(0, 8), BOX_REFUSED_JOURNAL);
     REFUSED(lent.journal[0] = 0, list_steps(0, 8), BOX_REFUSED_JOURNAL);
     REFUSED(lent.journal[0] = 0, build_into(ROOM), BOX_REFUSED_JOURNAL);
+    /* a wrong predecessor: of a row without one, and of an empty row */
     REFUSED((feed(1, 0), lent.journal[2]++), feed(1, 1), BOX_REFUSED_JOURNAL);
     REFUSED((feed(1, 0), feed(0, 0), lent.journal[13]++), close_into(8), BOX_REFUSED_JOURNAL);
     REFUSED((feed(1, 0), feed(0, 0), lent.journal[13]--), strike(0), BOX_REFUSED_JOURNAL);
