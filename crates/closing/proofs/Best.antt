@@ -1,20 +1,19 @@
--- The best score of a row tells whether the row scores. Assumes nothing.
+-- The best score of a row that scores is finite, and one of its candidates has it. Assumes nothing.
 use Prim.Native.Nat.{ℕ, _<_}
-use mathlib.Core.Path.{_≡_, sym, subst}
 use lib.Dec.{T}
 use lib.Ieee.{Float, le}
 use lib.Ieee.Scale.{finite}
 use Rattle.binary64.specs.Values.{pzero}
-use Rattle.binary64.proofs.Order.{same-test, le-left}
+use Rattle.binary64.proofs.Order.{le-left}
 use Rattle.journal.specs.Row.{Row, rowSize, scoreOf, scores}
 use Rattle.rows.specs.Row.{bestOf}
 use Rattle.decoder.proofs.Best.{lastBest-all, lastBest-at, lastBest-greatest}
 use Rattle.decoder.proofs.Bound.{between}
-use Rattle.decoder.proofs.Cells.{scores-intro, scores-elim}
+use Rattle.decoder.proofs.Cells.{scores-elim}
 
 module _ (r : Row) (low : (i : ℕ) → T (le (scoreOf r i) pzero)) where
   -- it lies from a finite score to 0
-  pub best-finite : T (scores r) → T (finite (bestOf r .1))
+  best-finite : T (scores r) → T (finite (bestOf r .1))
   best-finite t =
       let s = scores-elim r t in
       between (scoreOf r (s .0)) (bestOf r .1) (s .2)
@@ -23,9 +22,3 @@ module _ (r : Row) (low : (i : ℕ) → T (le (scoreOf r i) pzero)) where
 
   pub best-below : T (scores r) → bestOf r .0 < rowSize r
   best-below t = lastBest-at (scoreOf r) (rowSize r) (best-finite t) .0
-
-  pub scores-best : finite (bestOf r .1) ≡ scores r
-  scores-best = same-test (finite (bestOf r .1)) (scores r) there best-finite
-    where
-      there : T (finite (bestOf r .1)) → T (scores r)
-      there t = scores-intro r (bestOf r .0) (subst (λ (x : Float). T (finite x)) (sym (lastBest-at (scoreOf r) (rowSize r) t .1)) t)

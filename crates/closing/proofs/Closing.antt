@@ -14,12 +14,13 @@ use Rattle.journal.specs.Row.{Row, rowSize, scores, predecessor}
 use Rattle.journal.specs.Record.{readRow}
 use Rattle.journal.specs.Journal.{recordOn, used, readJournal}
 use Rattle.journal.specs.WellFormed.{Obey}
-use Rattle.journal.specs.inner.Check.{latestOf, survey}
+use Rattle.journal.specs.inner.Check.{latestOf, placeOf, survey}
 use Rattle.journal.specs.declared.check.Predecessor.{Predecessor}
 use Rattle.journal.specs.declared.check.Predecessor.the-variants.{Nothing, At}
 use Rattle.journal.specs.declared.check.Survey.the-variants.{NotWellFormed, WellFormed}
 use Rattle.journal.proofs.Lists.{some-none}
 use Rattle.journal.proofs.WellFormed.{used-well}
+use Rattle.journal.proofs.Walk.{latest-place}
 use Rattle.journal.proofs.Ends.{formed, Surveyed, survey-rows, survey-no}
 use Rattle.journal.proofs.Places.{row-obeys, row-at, row-inside, Latest, latest-some, latest-none}
 use Rattle.rows.specs.Row.{bestOf}
@@ -75,8 +76,8 @@ pub last-found : {s : List ℕ} {rows used : ℕ} {p : Predecessor} {place row c
 last-found {row = row} e f = record { row = row; found = rw f at e }
 
 -- where the walk starts
-abbrev pub begin : ℕ → ℕ → Previous → Back
-begin rows used best = record { rows = rows; end = used; candidate = best .candidate; pairs = 0 }
+abbrev pub begin : ℕ → ℕ → ℕ → Previous → Back
+begin rows used place best = record { rows = rows; end = used; latest = place; candidate = best .candidate; pairs = 0 }
 
 module _ (s : List ℕ) (rows used place count : ℕ) (h : Scoring s rows used place count) where
   surveyed : Surveyed s rows used (At place (h .row) count)
@@ -88,8 +89,11 @@ module _ (s : List ℕ) (rows used place count : ℕ) (h : Scoring s rows used p
   reads : readJournal s ≡ some (rowsIn s)
   reads = surveyed .reads ∙ ap some (sym same)
 
+  latest-found : latestOf (rowsIn s) ≡ At place (h .row) count
+  latest-found = ap latestOf same ∙ surveyed .latest
+
   last : Latest (rowsIn s) place (h .row) count
-  last = latest-some (rowsIn s) place (h .row) count (ap latestOf same ∙ surveyed .latest)
+  last = latest-some (rowsIn s) place (h .row) count latest-found
 
   obeys : Obey (last .latest ∷ last .earlier)
   obeys = row-obeys s (rowsIn s) reads (last .after) (last .latest) (last .earlier) (last .stands)
@@ -116,42 +120,43 @@ module _ (s : List ℕ) (rows used place count : ℕ) (h : Scoring s rows used p
     is-best : best ≡ previousOf (bestOf (last .latest))
     is-best = e ∙ ap (λ (r : Row). previousOf (bestOf r)) last-row
 
-    pub begin-reached : Reached s (begin rows used best)
+    pub begin-reached : Reached s (begin rows used place best)
     begin-reached = record {
       reads = reads;
       within = omega (arith, surveyed .counted, ap length same);
       placed = rw all-rows (sym (surveyed .ends) ∙ used-well s (rowsIn s) (formed s (rowsIn s) reads));
+      names = rw all-rows (sym (ap placeOf latest-found) ∙ latest-place (rowsIn s));
       enters = λ _. rw (all-rows, last .is, is-best) (best-below (last .latest) (obey-low (last .latest) (last .earlier) obeys) (latest-scores (rowsIn s) (last .latest) (last .is)));
     }
 
-    pub closing-is : closing (rowsIn s) ≡ path (reverse (pathFrom s (begin rows used best))) (best .score)
+    pub closing-is : closing (rowsIn s) ≡ path (reverse (pathFrom s (begin rows used place best))) (best .score)
     unfolding closing
     closing-is = rw (last .is, all-rows, is-best)
 
-    closed-by : (room : ℕ) → closingOn s room ≡ cond (leb (length (reverse (pathFrom s (begin rows used best)))) room) (gave (path (reverse (pathFrom s (begin rows used best))) (best .score))) (refused 15)
+    closed-by : (room : ℕ) → closingOn s room ≡ cond (leb (length (reverse (pathFrom s (begin rows used place best)))) room) (gave (path (reverse (pathFrom s (begin rows used place best))) (best .score))) (refused 15)
     unfolding closingOn
     closed-by room = ap (closeRead room) reads ∙ ap (λ (c : Closed). cond (leb (pathLength c) room) (gave c) (refused 15)) closing-is
 
     -- n pairs into so much room
-    module _ (room n : ℕ) (q : n ≡ 0 + length (pathFrom s (begin rows used best))) where
+    module _ (room n : ℕ) (q : n ≡ 0 + length (pathFrom s (begin rows used place best))) where
       pub closed-full : room < n → closingOn s room ≡ refused 15
       closed-full l =
-          let more : room < length (reverse (pathFrom s (begin rows used best))) = rw length-reverse (omega arith) in
+          let more : room < length (reverse (pathFrom s (begin rows used place best))) = rw length-reverse (omega arith) in
           closed-by room ∙ rw (lt-leb _ _ more)
 
       module _ (l : n ≤ room) where
-        closed-done : closingOn s room ≡ gave (path (reverse (pathFrom s (begin rows used best))) (best .score))
+        closed-done : closingOn s room ≡ gave (path (reverse (pathFrom s (begin rows used place best))) (best .score))
         closed-done =
-            let fewer : length (reverse (pathFrom s (begin rows used best))) ≤ room = rw length-reverse (omega arith) in
+            let fewer : length (reverse (pathFrom s (begin rows used place best))) ≤ room = rw length-reverse (omega arith) in
             closed-by room ∙ rw (le-leb _ _ fewer)
 
-        closed-stored : (f : PairField) (buffer : List ℕ) {buffer′ : List ℕ} → buffer′ ≡ column f (pathFrom s (begin rows used best)) n buffer → buffer′ ≡ closeStored f (closingOn s room) buffer
+        closed-stored : (f : PairField) (buffer : List ℕ) {buffer′ : List ℕ} → buffer′ ≡ column f (pathFrom s (begin rows used place best)) n buffer → buffer′ ≡ closeStored f (closingOn s room) buffer
         unfolding closeStored
-        closed-stored f buffer k = rw closed-done (k ∙ column-order f (pathFrom s (begin rows used best)) n buffer q)
+        closed-stored f buffer k = rw closed-done (k ∙ column-order f (pathFrom s (begin rows used place best)) n buffer q)
 
-        pub closed-path : (a b : List ℕ) {a′ b′ : List ℕ} → a′ ≡ column pairRow (pathFrom s (begin rows used best)) n a → b′ ≡ column pairCandidate (pathFrom s (begin rows used best)) n b
+        pub closed-path : (a b : List ℕ) {a′ b′ : List ℕ} → a′ ≡ column pairRow (pathFrom s (begin rows used place best)) n a → b′ ≡ column pairCandidate (pathFrom s (begin rows used place best)) n b
             → (Path (best .score) n ≡ closeAnswer (closingOn s room)) × ((a′ ≡ closeStored pairRow (closingOn s room) a) × (b′ ≡ closeStored pairCandidate (closingOn s room) b))
         unfolding closeAnswer
         closed-path a b k m =
-            let answer : Path (best .score) n ≡ closeAnswer (closingOn s room) = rw closed-done (ap (Path (best .score)) (length-order (pathFrom s (begin rows used best)) n q)) in
+            let answer : Path (best .score) n ≡ closeAnswer (closingOn s room) = rw closed-done (ap (Path (best .score)) (length-order (pathFrom s (begin rows used place best)) n q)) in
             (answer, (closed-stored pairRow a k, closed-stored pairCandidate b m))

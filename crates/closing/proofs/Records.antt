@@ -1,24 +1,18 @@
 -- A row's record at the head of some words, as the walk reads it. Assumes nothing.
-use Prim.Native.Nat.{ℕ, _+_, _*_, _/_, _%_, _<_}
+use Prim.Native.Nat.{ℕ, _+_, _*_, _/_, _%_, _<_, _≤_}
 use native.Mathlib.Omega.{arith}
 use mathlib.Core.Path.{_≡_, ap, _∙_}
 use mathlib.Core.List.{List}
-use lib.ListN.{getD}
+use lib.ListN.{length, getD}
 use Rattle.journal.specs.Row.{Cell, rowSize, cellOf}
 use Rattle.journal.specs.Record.{headWords, readRow}
 use Rattle.journal.proofs.Tests.{drop-first}
-use Rattle.journal.proofs.RecordRead.{row-size, row-cell}
-use Rattle.rows.specs.inner.Scoring.{CandidateStands, RecordStands}
-use Rattle.closing.specs.inner.Walk.{RecordInRange}
+use Rattle.journal.proofs.RecordRead.{row-cell}
+use Rattle.rows.specs.inner.Scoring.{CandidateStands}
 
 module _ (ws : List ℕ) where
   pub row-parent : (i : ℕ) → i < rowSize (readRow ws) → cellOf (readRow ws) i .parent ≡ getD ws (headWords + 7 * i) 0 / 2048 % 32
   row-parent i h = ap (λ (c : Cell). c .parent) (row-cell ws i h) ∙ ap (λ (w : ℕ). w / 2048 % 32) (drop-first (headWords + 7 * i) ws)
 
-  module _ (h : RecordInRange ws) where
-    -- all candidates, counted by the head word
-    pub row-counted : RecordStands ws (getD ws 0 0 % 32)
-    row-counted = record { many = row-size ws; room = omega (arith, h .room, row-size ws) }
-
-    pub row-candidate : (i : ℕ) → i < rowSize (readRow ws) → CandidateStands ws i
-    row-candidate i l = record { below = l; room = omega (arith, h .room) }
+  pub row-candidate : headWords + 7 * rowSize (readRow ws) ≤ length ws → (i : ℕ) → i < rowSize (readRow ws) → CandidateStands ws i
+  row-candidate h i l = record { below = l; room = omega arith }

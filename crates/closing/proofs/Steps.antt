@@ -1,5 +1,5 @@
 -- The walk back along the parents: what stands at each of its places, and what a step and its store leave. Assumes nothing.
-use Prim.Native.Nat.{ℕ, suc, _+_, _-_, _*_, _<_, _≤_}
+use Prim.Native.Nat.{ℕ, suc, _+_, _-_, _*_, _%_, _<_, _≤_}
 use native.Mathlib.Omega.{arith}
 use native.Mathlib.Nat.{le-refl}
 use mathlib.Core.Path.{_≡_, refl, sym, ap, _∙_, subst}
@@ -22,12 +22,13 @@ use Rattle.journal.specs.Journal.{words, predecessorPlace, recordOn}
 use Rattle.journal.specs.WellFormed.{Obey}
 use Rattle.journal.proofs.Lists.{all-at, each-at, each-intro}
 use Rattle.journal.proofs.Rules.{CellRules, cell-rules, row-rules}
-use Rattle.journal.proofs.Reading.{length-record}
+use Rattle.journal.proofs.Reading.{length-record, words-small}
+use Rattle.journal.proofs.Walk.{place-inside, place-scores, place-quiet, place-past}
 use Rattle.journal.proofs.Ends.{formed, back, Ended, ended-room, ended-turn}
-use Rattle.journal.proofs.Places.{row-obeys, row-at, row-inside}
+use Rattle.journal.proofs.Places.{row-obeys, row-at, row-inside, row-names}
 use Rattle.rows.specs.inner.Scoring.{CandidateStands}
 use Rattle.decoder.specs.Closing.{follow}
-use Rattle.closing.specs.inner.Walk.{RecordInRange, rowsIn, firstRows, Reached, pathFrom, over, pairStored, column}
+use Rattle.closing.specs.inner.Walk.{rowsIn, firstRows, Reached, pathFrom, over, pairStored, column}
 use Rattle.closing.specs.Close.{PairField}
 use Rattle.closing.specs.Row.{noRow, rowNumber}
 use Rattle.closing.specs.declared.walk.Back.{Back}
@@ -151,19 +152,36 @@ module _ (s : List ℕ) (b : Back) (h : Reached s b) (left : 0 < b .rows) where
   pub step-row : readRow (drop (b .end - back s (b .end)) s) ≡ here
   step-row = rw step-place (row-at s (rowsIn s) (h .reads) passed here earlier split-at)
 
-  pub step-stands : RecordInRange (drop (b .end - back s (b .end)) s)
-  step-stands = record { room = room; score = λ i. rw step-row (obey-low here earlier obeys i) }
-    where
-      room : headWords + 7 * rowSize (readRow (drop (b .end - back s (b .end)) s)) ≤ length (drop (b .end - back s (b .end)) s)
-      room =
-          rw (step-row, length-drop (b .end - back s (b .end)) s)
-          (omega (arith, step-place, obey-room here earlier obeys, row-inside s (rowsIn s) (h .reads) passed here earlier split-at))
+  step-inside : headWords + 7 * rowSize (readRow (drop (b .end - back s (b .end)) s)) ≤ length (drop (b .end - back s (b .end)) s)
+  step-inside =
+      rw (step-row, length-drop (b .end - back s (b .end)) s)
+      (omega (arith, step-place, obey-room here earlier obeys, row-inside s (rowsIn s) (h .reads) passed here earlier split-at))
+
+  -- its second word is there
+  pub step-words : 1 < length (drop (b .end - back s (b .end)) s)
+  step-words = omega (arith, step-inside)
+
+  -- the place that it names
+  step-names : getD (drop (b .end - back s (b .end)) s) 1 0 % 268435456 ≡ predecessorPlace earlier
+  step-names =
+      let word = row-names s (rowsIn s) (h .reads) passed here earlier split-at in
+      rw step-place (omega (arith, word, place-inside earlier, words-small earlier (obeys .1), many, reached-few s b h))
+
+  -- where it starts tells whether it scores
+  latest-is-here : b .latest ≡ predecessorPlace (here ∷ earlier)
+  latest-is-here = h .names ∙ ap predecessorPlace split
+
+  scores-yes : b .end - back s (b .end) ≡ b .latest → scores here ≡ true
+  scores-yes e = place-scores here earlier (sym step-place ∙ e ∙ latest-is-here)
+
+  scores-no : (b .end - back s (b .end) ≡ b .latest → ⊥) → scores here ≡ false
+  scores-no n = place-quiet here earlier (λ k. n (step-place ∙ k ∙ sym latest-is-here))
 
   -- ---- over its record
 
   -- what is left past it, with this candidate and so many pairs
   abbrev past : ℕ → ℕ → Back
-  past candidate pairs = record { rows = length earlier; end = suc (length (words earlier)); candidate = candidate; pairs = pairs }
+  past candidate pairs = record { rows = length earlier; end = suc (length (words earlier)); latest = predecessorPlace earlier; candidate = candidate; pairs = pairs }
 
   module _ (onward : b .candidate ≡ noParent → ⊥) where
     module _ (t : scores here ≡ true) where
@@ -197,6 +215,7 @@ module _ (s : List ℕ) (b : Back) (h : Reached s b) (left : 0 < b .rows) where
       reads = h .reads;
       within = omega (arith, many, h .within);
       placed = ap (λ (rs : List Row). suc (length (words rs))) (sym again);
+      names = ap predecessorPlace (sym again);
       enters = λ n. rw again (enters n);
     }
 
@@ -217,16 +236,19 @@ module _ (s : List ℕ) (b : Back) (h : Reached s b) (left : 0 < b .rows) where
 
     -- the step in code
     module _ {p : ℕ} where
-      pub step-yes : true ≡ scores (readRow (drop (b .end - back s (b .end)) s)) → p ≡ cellOf (readRow (drop (b .end - back s (b .end)) s)) (b .candidate) .parent
-          → _≡_ {A = Back} (record { rows = b .rows - 1; end = b .end - back s (b .end); candidate = p; pairs = b .pairs + 1 }) (over (firstRows s (b .rows)) b)
-      step-yes t e = sym (over-yes (ap scores (sym step-row) ∙ sym t) ∙ rw (many, ← step-place, e, step-row))
+      pub step-yes : b .end - back s (b .end) ≡ b .latest → p ≡ cellOf (readRow (drop (b .end - back s (b .end)) s)) (b .candidate) .parent
+          → _≡_ {A = Back} (record { rows = b .rows - 1; end = b .end - back s (b .end); latest = getD (drop (b .end - back s (b .end)) s) 1 0 % 268435456; candidate = p; pairs = b .pairs + 1 })
+          (over (firstRows s (b .rows)) b)
+      step-yes t e = sym (over-yes (scores-yes t) ∙ rw (many, ← step-place, step-names, e, step-row))
 
-    pub step-no : false ≡ scores (readRow (drop (b .end - back s (b .end)) s))
-        → _≡_ {A = Back} (record { rows = b .rows - 1; end = b .end - back s (b .end); candidate = b .candidate; pairs = b .pairs }) (over (firstRows s (b .rows)) b)
-    step-no t = sym (over-no (ap scores (sym step-row) ∙ sym t) ∙ rw (many, ← step-place))
+    pub step-no : (b .end - back s (b .end) ≡ b .latest → ⊥)
+        → _≡_ {A = Back} (record { rows = b .rows - 1; end = b .end - back s (b .end); latest = b .latest; candidate = b .candidate; pairs = b .pairs }) (over (firstRows s (b .rows)) b)
+    step-no n =
+        ap (λ (l : ℕ). record { rows = b .rows - 1; end = b .end - back s (b .end); latest = l; candidate = b .candidate; pairs = b .pairs }) (latest-is-here ∙ place-past here earlier (scores-no n))
+        ∙ sym (over-no (scores-no n) ∙ rw (many, ← step-place))
 
-    pub step-candidate : true ≡ scores (readRow (drop (b .end - back s (b .end)) s)) → CandidateStands (drop (b .end - back s (b .end)) s) (b .candidate)
-    step-candidate t = row-candidate (drop (b .end - back s (b .end)) s) step-stands (b .candidate) (rw step-row (inside (ap scores (sym step-row) ∙ sym t)))
+    pub step-candidate : b .end - back s (b .end) ≡ b .latest → CandidateStands (drop (b .end - back s (b .end)) s) (b .candidate)
+    step-candidate t = row-candidate (drop (b .end - back s (b .end)) s) step-inside (b .candidate) (rw step-row (inside (scores-yes t)))
 
     pub over-pairs : over (firstRows s (b .rows)) b .pairs ≤ b .pairs + 1
     over-pairs = go (scores here) refl
@@ -281,7 +303,7 @@ module _ (s : List ℕ) (b : Back) (h : Reached s b) (left : 0 < b .rows) where
           rw (over-place, at) step-row
 
       pub over-candidate : CandidateStands (drop (over (firstRows s (b .rows)) b .end) s) (b .candidate)
-      over-candidate = rw over-place (row-candidate (drop (b .end - back s (b .end)) s) step-stands (b .candidate) (rw step-row (inside pair-scores)))
+      over-candidate = rw over-place (row-candidate (drop (b .end - back s (b .end)) s) step-inside (b .candidate) (rw step-row (inside pair-scores)))
 
     -- a column of the pairs, stored from the last entry down
     pub over-column : (f : PairField) (n : ℕ) (buffer : List ℕ) (x : ℕ) → x ≡ f (over (firstRows s (b .rows)) b .rows, b .candidate) → b .pairs < n → n ≤ length buffer

@@ -40,6 +40,7 @@ fn close_from(
     let start = Back {
         rows: standing,
         end: used,
+        latest: place,
         candidate: best.candidate,
         pairs: 0,
     };

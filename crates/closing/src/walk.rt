@@ -1,22 +1,22 @@
 // The walk back along the parents, over the records by the lengths at their ends.
 use crate::record::parent_of;
-use crate::record::row_scores;
 ghost use mathlib.Core.Path.{_≡_};
 ghost use Prim.Native.Nat.{_+_, _<_, _≤_};
 ghost use lib.ListN.{length};
 ghost use Rattle.closing.specs.inner.Walk.{Reached, RecordLeft, firstRows, pathFrom, over, pairStored, column};
 ghost use Rattle.closing.specs.Close.{pairRow, pairCandidate};
 
-// Where it stands: so many rows are left, whose records end at a place; the candidate of the latest of them that scores, 31 for none; and the number
-// of pairs found so far.
+// Where it stands: so many rows are left, whose records end at a place; where the record of the latest of them that scores starts, and its candidate,
+// 31 for none; and the number of pairs found so far.
 pub struct Back {
     pub rows: usize,
     pub end: usize,
+    pub latest: usize,
     pub candidate: u32,
     pub pairs: usize,
 }
 
-// Over one record: a row that scores gives a pair, and its candidate's parent is the next one.
+// Over one record: a row that scores gives a pair, and names the place of the next one; the candidate there is its candidate's parent.
 pub fn step_back(journal: &[u32], b: Back) -> Back
     requires { ⌜ RecordLeft (now journal) b ⌝ }
     ensures { λ r. ⌜ r ≡ over (firstRows (now (journal .entry)) (b .rows)) b ⌝ }
@@ -25,10 +25,11 @@ pub fn step_back(journal: &[u32], b: Back) -> Back
     let length = (journal[last] % 268435456) as usize;
     let at = b.end - length;
     let words = &journal[at..];
-    if row_scores(words) {
+    if at == b.latest {
         return Back {
             rows: b.rows - 1,
             end: at,
+            latest: (words[1] % 268435456) as usize,
             candidate: parent_of(words, b.candidate as usize),
             pairs: b.pairs + 1,
         };
@@ -36,6 +37,7 @@ pub fn step_back(journal: &[u32], b: Back) -> Back
     Back {
         rows: b.rows - 1,
         end: at,
+        latest: b.latest,
         candidate: b.candidate,
         pairs: b.pairs,
     }

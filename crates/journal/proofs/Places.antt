@@ -16,7 +16,6 @@ use Rattle.journal.specs.inner.Check.{latestOf, placeOf}
 use Rattle.journal.specs.declared.check.Predecessor.{Predecessor}
 use Rattle.journal.specs.declared.check.Predecessor.the-variants.{Nothing, At}
 use Rattle.journal.proofs.Reading.{words-drop, read-row}
-use Rattle.journal.proofs.Tests.{drop-first}
 use Rattle.journal.proofs.Walk.{latest-place}
 use Rattle.journal.proofs.Ends.{formed, obey-drop, words-cons, journal-split}
 
@@ -37,6 +36,11 @@ module _ (s : List ℕ) (rs : List Row) (e : readJournal s ≡ some rs) (k : ℕ
       = formed s rs e .2 .1 ∙ journal-split rs (words qs ++ own) (more .0) rest (more .1 ∙ ap (λ (l : List ℕ). l ++ more .0) (ap words d ∙ words-cons q qs))
       ∙ ap (λ (l : List ℕ). w ∷ l) (append-assoc (words qs) own (more .0 ++ rest)) in
       (more .0 ++ rest, ap (drop (suc (length (words qs)))) whole ∙ drop-at (w ∷ words qs) (own ++ (more .0 ++ rest)) (suc (length (words qs))) refl)
+
+  -- its second word
+  pub row-names : getD (drop (suc (length (words qs))) s) 1 0 ≡ predecessorWord (predecessorPlace qs)
+  unfolding recordOf
+  row-names = ap (λ (l : List ℕ). getD l 1 0) (split-at .1)
 
   -- its record starts past the words of those before it
   pub row-at : readRow (drop (suc (length (words qs))) s) ≡ q
@@ -85,13 +89,6 @@ latest-none (r ∷ rs) e = go (scores r) (latest-none rs) e
 -- ---- what a row names
 
 module _ (s : List ℕ) (rs : List Row) (e : readJournal s ≡ some rs) (k : ℕ) (q : Row) (qs : List Row) (d : drop k rs ≡ q ∷ qs) where
-  -- past its head word
-  second-word : getD s (suc (length (words qs)) + 1) 0 ≡ predecessorWord (predecessorPlace qs)
-  second-word =
-      let here = suc (length (words qs)) in
-      let split = split-at s rs e k q qs d in
-      sym (drop-first (here + 1) s) ∙ ap (λ (l : List ℕ). getD l 0 0) (sym (drop-drop 1 here s) ∙ ap (drop 1) (split .1)) ∙ (unfold recordOf in refl)
-
   -- a row among those before it
   earlier-row : (m : ℕ) (p : Row) (ps : List Row) → drop m qs ≡ p ∷ ps → readRow (drop (suc (length (words ps))) s) ≡ p
   earlier-row m p ps f =
@@ -100,13 +97,13 @@ module _ (s : List ℕ) (rs : List Row) (e : readJournal s ≡ some rs) (k : ℕ
       row-at s rs e (suc k + m) p ps stands
 
   -- its second word names its predecessor
-  pub predecessor-named : Names s (getD s (suc (length (words qs)) + 1) 0) (predecessor qs)
+  pub predecessor-named : Names s (getD (drop (suc (length (words qs))) s) 1 0) (predecessor qs)
   predecessor-named = go (latestOf qs) refl
     where
-      placed : {l : Predecessor} → latestOf qs ≡ l → getD s (suc (length (words qs)) + 1) 0 ≡ predecessorWord (placeOf l)
-      placed {l} f = second-word ∙ ap predecessorWord (sym (latest-place qs) ∙ ap placeOf f)
+      placed : {l : Predecessor} → latestOf qs ≡ l → getD (drop (suc (length (words qs))) s) 1 0 ≡ predecessorWord (placeOf l)
+      placed {l} f = row-names s rs e k q qs d ∙ ap predecessorWord (sym (latest-place qs) ∙ ap placeOf f)
 
-      go : (l : Predecessor) → latestOf qs ≡ l → Names s (getD s (suc (length (words qs)) + 1) 0) (predecessor qs)
+      go : (l : Predecessor) → latestOf qs ≡ l → Names s (getD (drop (suc (length (words qs))) s) 1 0) (predecessor qs)
       go Nothing f = rw (latest-none qs f) (placed f)
       go (At place row candidates) f =
           let l = latest-some qs place row candidates f in

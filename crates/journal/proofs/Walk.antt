@@ -61,6 +61,27 @@ place-inside (r ∷ rs) = simp length-append (go (scores r) (some-words (predece
     go true l ih = omega arith
     go false l ih = omega arith
 
+-- a row's place is that of the rows with it exactly if it scores
+module _ (r : Row) (rs : List Row) where
+  pub place-past : scores r ≡ false → predecessorPlace (r ∷ rs) ≡ predecessorPlace rs
+  unfolding predecessorPlace
+  place-past q = rw q
+
+  pub place-scores : suc (length (words rs)) ≡ predecessorPlace (r ∷ rs) → scores r ≡ true
+  place-scores e = go (scores r) refl
+    where
+      go : (b : Bool) → scores r ≡ b → b ≡ true
+      go true q = refl
+      go false q = absurd (omega (arith, place-past q, place-inside rs))
+
+  pub place-quiet : (suc (length (words rs)) ≡ predecessorPlace (r ∷ rs) → ⊥) → scores r ≡ false
+  unfolding predecessorPlace
+  place-quiet n = go (scores r) refl
+    where
+      go : (b : Bool) → scores r ≡ b → b ≡ false
+      go true q = absurd (n (rw q))
+      go false q = refl
+
 latest-new : (r : Row) (rs : List Row) → latestOf (r ∷ rs) ≡ cond (scores r) (At (suc (length (words rs))) (length rs) (rowSize r)) (latestOf rs)
 unfolding latestOf
 latest-new r rs = refl

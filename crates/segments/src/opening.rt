@@ -33,6 +33,7 @@ fn nothing_left(refusal: u32) -> Building
     let back = Back {
         rows: 0,
         end: 0,
+        latest: 0,
         candidate: 0,
         pairs: 0,
     };
@@ -82,6 +83,7 @@ fn begin_at(
     let start = Back {
         rows: standing,
         end: used,
+        latest: place,
         candidate: best.candidate,
         pairs: 0,
     };

@@ -1,27 +1,19 @@
 -- The walk back along the parents, record by record.
-use Prim.Native.Nat.{ℕ, suc, _+_, _*_, _-_, _<_, _≤_}
+use Prim.Native.Nat.{ℕ, suc, _+_, _-_, _<_, _≤_}
 use mathlib.Core.Path.{_≡_}
 use mathlib.Core.Bool.{cond}
 use mathlib.Core.List.{List, [], _∷_, map, reverseAux}
 use mathlib.Core.Option.{Option, none, some}
-use lib.Dec.{T, ltb}
+use lib.Dec.{ltb}
 use lib.ListN.{length, drop, set}
-use lib.Ieee.{le}
-use Rattle.binary64.specs.Values.{pzero}
-use Rattle.journal.specs.Row.{Row, noParent, rowSize, cellOf, scoreOf, scores, predecessor, sizeOf}
-use Rattle.journal.specs.Record.{headWords, readRow}
-use Rattle.journal.specs.Journal.{words, readJournal}
+use Rattle.journal.specs.Row.{Row, noParent, cellOf, scores, predecessor, sizeOf}
+use Rattle.journal.specs.Journal.{words, predecessorPlace, readJournal}
 use Rattle.journal.specs.inner.Check.{survey}
 use Rattle.journal.specs.declared.check.Predecessor.the-variants.{At}
 use Rattle.journal.specs.declared.check.Survey.the-variants.{WellFormed}
 use Rattle.decoder.specs.Closing.{Pairs, follow}
 use Rattle.closing.specs.Close.{PairField}
 use Rattle.closing.specs.declared.walk.Back.{Back}
-
--- a row's record at the head of the words: its candidates with their words, and no score above 0
-pub record RecordInRange (words : List ℕ) : Type 0 where
-  pub room : headWords + 7 * rowSize (readRow words) ≤ length words
-  pub score : (i : ℕ) → T (le (scoreOf (readRow words) i) pzero)
 
 -- the rows of a journal that is well formed
 abbrev pub rowsRead : Option (List Row) → List Row
@@ -35,12 +27,13 @@ rowsIn s = rowsRead (readJournal s)
 abbrev pub firstRows : List ℕ → ℕ → List Row
 firstRows s n = drop (length (rowsIn s) - n) (rowsIn s)
 
--- the walk stands at a place of the journal s: so many rows are left, their records end there, and the candidate is one of the latest of them that
--- scores, or none
+-- the walk stands at a place of the journal s: so many rows are left, their records end there, the latest of them that scores has its place, and the
+-- candidate is one of that row, or none
 pub record Reached (s : List ℕ) (b : Back) : Type 0 where
   pub reads : readJournal s ≡ some (rowsIn s)
   pub within : b .pairs + b .rows ≤ length (rowsIn s)
   pub placed : b .end ≡ suc (length (words (firstRows s (b .rows))))
+  pub names : b .latest ≡ predecessorPlace (firstRows s (b .rows))
   pub enters : (b .candidate ≡ noParent → ⊥) → b .candidate < sizeOf (predecessor (firstRows s (b .rows)))
 
 -- and has a record to go over
@@ -58,8 +51,8 @@ unfoldable pub over : List Row → Back → Back
 over [] b = b
 over (r ∷ rs) b =
     cond (scores r)
-    (record { rows = length rs; end = suc (length (words rs)); candidate = cellOf r (b .candidate) .parent; pairs = b .pairs + 1 })
-    (record { rows = length rs; end = suc (length (words rs)); candidate = b .candidate; pairs = b .pairs })
+    (record { rows = length rs; end = suc (length (words rs)); latest = predecessorPlace rs; candidate = cellOf r (b .candidate) .parent; pairs = b .pairs + 1 })
+    (record { rows = length rs; end = suc (length (words rs)); latest = predecessorPlace rs; candidate = b .candidate; pairs = b .pairs })
 
 -- a buffer for n pairs after a step from b to c, where x is the step's entry of it, if it gave a pair
 unfoldable pub pairStored : Back → Back → ℕ → ℕ → List ℕ → List ℕ

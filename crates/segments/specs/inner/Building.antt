@@ -33,7 +33,7 @@ refusing k = record {
     more = false;
     group = record { element = 0; «min_intrinsic» = pzero; «max_intrinsic» = pzero; «first_row» = 0; «last_row» = 0 };
     bridges = bridgesOf [];
-    back = record { rows = 0; end = 0; candidate = 0; pairs = 0 };
+    back = record { rows = 0; end = 0; latest = 0; candidate = 0; pairs = 0 };
   };
   out = zeroSegment;
 }

@@ -1,9 +1,8 @@
 -- `closing::walk::step_back` meets its contract. Assumes nothing.
-use mathlib.Core.Path.{sym, _∙_}
 use native.Mathlib.Omega.{arith}
 use borrow.Author.Needs.{needs}
 use Rattle.journal.proofs.Stores.{take-rest}
-use Rattle.closing.proofs.Steps.{step-room, step-stands, step-candidate, step-yes, step-no, reached-few}
+use Rattle.closing.proofs.Steps.{step-room, step-words, step-candidate, step-yes, step-no, reached-few}
 use Rattle.closing.proofs.walk.step_back.Statement.{statement}
 use Rattle.closing.proofs.walk.step_back.Tie as tie
 
@@ -34,29 +33,32 @@ part-words-start c = omega (arith, step-room _ _ (c .before .before .before .bef
 part-words-end : tie.Need-part-words-end
 part-words-end c = search needs
 
-row-scores-requires : tie.Need-row-scores-requires
-row-scores-requires c κs = rw take-rest (step-stands _ _ (c .before .before .before .before .before .pre .reached) (c .before .before .before .before .before .pre .left))
-
 sub-t15 : tie.Need-sub-t15
 sub-t15 c = search needs
+
+shared-slice-read-t17 : tie.Need-shared-slice-read-t17
+shared-slice-read-t17 c = rw take-rest (step-words _ _ (c .before .before .before .before .before .before .before .before .before .pre .reached) (c .before .before .before .before .before .before .before .before .before .pre .left))
+
+cast-t19 : tie.Need-cast-t19
+cast-t19 c = search needs
 
 cast-parent-of : tie.Need-cast-parent-of
 cast-parent-of c = search needs
 
 parent-of-requires : tie.Need-parent-of-requires
-parent-of-requires c κs = rw take-rest (step-candidate _ _ (c .before .before .before .before .before .before .before .before .before .pre .reached) (c .before .before .before .before .before .before .before .before .before .pre .left) (c .before .before .before .before .before .before .before .before .before .pre .parent) (rw take-rest at (sym (c .before .before .if1 .taken) ∙ c .before .before .before .row-scores .ensures)))
+parent-of-requires c κs = rw take-rest (step-candidate _ _ (c .before .before .before .before .before .before .before .before .before .before .pre .reached) (c .before .before .before .before .before .before .before .before .before .before .pre .left) (c .before .before .before .before .before .before .before .before .before .before .pre .parent) (c .before .before .before .if1 .taken))
 
-add-t18 : tie.Need-add-t18
-add-t18 c = omega (arith, reached-few _ _ (c .before .before .before .before .before .before .before .before .before .before .before .pre .reached))
+add-t22 : tie.Need-add-t22
+add-t22 c = omega (arith, reached-few _ _ (c .before .before .before .before .before .before .before .before .before .before .before .before .pre .reached))
 
 returns : tie.Need-returns
-returns c = step-yes _ _ (c .before .before .before .before .before .before .before .before .before .before .before .pre .reached) (c .before .before .before .before .before .before .before .before .before .before .before .pre .left) (c .before .before .before .before .before .before .before .before .before .before .before .pre .parent) (rw take-rest at (sym (c .before .before .before .before .if1 .taken) ∙ c .before .before .before .before .before .row-scores .ensures)) (rw take-rest at (c .before .parent-of .ensures))
+returns c = rw take-rest (step-yes _ _ (c .before .before .before .before .before .before .before .before .before .before .before .before .pre .reached) (c .before .before .before .before .before .before .before .before .before .before .before .before .pre .left) (c .before .before .before .before .before .before .before .before .before .before .before .before .pre .parent) (c .before .before .before .before .before .if1 .taken) (rw take-rest at (c .before .parent-of .ensures)))
 
 sub-t7 : tie.Need-sub-t7
 sub-t7 c = search needs
 
 returns-2 : tie.Need-returns-2
-returns-2 c = step-no _ _ (c .before .before .before .before .before .before .before .before .pre .reached) (c .before .before .before .before .before .before .before .before .pre .left) (c .before .before .before .before .before .before .before .before .pre .parent) (rw take-rest at (sym (c .before .if1 .left) ∙ c .before .before .row-scores .ensures))
+returns-2 c = step-no _ _ (c .before .before .before .before .before .before .before .before .pre .reached) (c .before .before .before .before .before .before .before .before .pre .left) (c .before .before .before .before .before .before .before .before .pre .parent) (c .before .if1 .left)
 
 pub step-back-spec : {M : Type 1} → statement M
 step-back-spec =
@@ -71,11 +73,12 @@ step-back-spec =
     sub-words
     part-words-start
     part-words-end
-    row-scores-requires
     sub-t15
+    shared-slice-read-t17
+    cast-t19
     cast-parent-of
     parent-of-requires
-    add-t18
+    add-t22
     returns
     sub-t7
     returns-2)
