@@ -9,7 +9,7 @@ use lib.ListN.{length, getD, drop, length-map, List·getD-map, length-drop}
 use lib.Seq.{drop-cons}
 use lib.Ieee.{Float, nan}
 use Rattle.journal.specs.Row.{Cell, noCell, rowSize, cellOf}
-use Rattle.journal.specs.Record.{headWords, floatAt, readDistance, recordLength, readRow}
+use Rattle.journal.specs.Record.{firstCell, floatAt, readDistance, recordLength, readRow}
 use Rattle.journal.specs.Journal.{words, predecessorPlace}
 use Rattle.journal.specs.inner.Strike.{RowsAtLeast, endRead, endOf}
 use Rattle.journal.specs.inner.Check.{survey}
@@ -57,21 +57,21 @@ module _ (ws : List ℕ) where
 
   pub row-number : length (readRow ws .distances) ≡ count * (getD ws 0 0 / 32 % 32)
   unfolding readRow
-  row-number = length-each readDistance 2 (count * (getD ws 0 0 / 32 % 32)) (drop 1 (drop (7 * count) (drop headWords ws)))
+  row-number = length-each readDistance 2 (count * (getD ws 0 0 / 32 % 32)) (drop 1 (drop (7 * count) (drop firstCell ws)))
 
-  float-distance : (d : Float) (k : ℕ) → k < count * (getD ws 0 0 / 32 % 32) → floatAt ws (headWords + 7 * count + 1 + 2 * k) ≡ getD (readRow ws .distances) k d
+  float-distance : (d : Float) (k : ℕ) → k < count * (getD ws 0 0 / 32 % 32) → floatAt ws (firstCell + 7 * count + 1 + 2 * k) ≡ getD (readRow ws .distances) k d
   float-distance d k h = let few : k < rowSize (readRow ws) * readRow ws .before = rw (row-size ws, row-before) h in sym (row-distance ws d k few ∙ rw (row-size ws))
 
   -- a candidate's fields
   abbrev plain : ℕ → Cell
   plain k = record {
-    candidate = record { element = getD ws (headWords + 7 * k) 0 % 1024; intrinsic = floatAt ws (headWords + 7 * k + 1); near = getD ws (headWords + 7 * k) 0 / 1024 % 2; «raw_log» = floatAt ws (headWords + 7 * k + 3) };
-    parent = getD ws (headWords + 7 * k) 0 / 2048 % 32;
-    score = floatAt ws (headWords + 7 * k + 5);
+    candidate = record { element = getD ws (firstCell + 7 * k) 0 % 1024; intrinsic = floatAt ws (firstCell + 7 * k + 1); near = getD ws (firstCell + 7 * k) 0 / 1024 % 2; «raw_log» = floatAt ws (firstCell + 7 * k + 3) };
+    parent = getD ws (firstCell + 7 * k) 0 / 2048 % 32;
+    score = floatAt ws (firstCell + 7 * k + 5);
   }
 
   cell-plain : (k : ℕ) → k < rowSize (readRow ws) → cellOf (readRow ws) k ≡ plain k
-  cell-plain k h = row-cell ws k h ∙ cell-at (headWords + 7 * k) ws
+  cell-plain k h = row-cell ws k h ∙ cell-at (firstCell + 7 * k) ws
 
   -- a column of the cells: where its entries are read
   column-listed : {A : Type 0} (f : Cell → A) (g : ℕ → A) (buffer : List A) → ((k : ℕ) → g k ≡ f (plain k)) → rowSize (readRow ws) ≤ length buffer
@@ -103,10 +103,10 @@ module _ (ws : List ℕ) where
     pub fields-stand : (unit limit : ℕ) (buffer : List ℕ) → 0 < unit → 0 < limit → count ≤ length buffer → FieldsStand ws count unit limit buffer
     fields-stand unit limit buffer u l room = record { inside = omega (arith, long); some-unit = u; some-limit = l; room = room }
 
-    pub floats-stand : (place : ℕ) (buffer : List Float) → place ≤ headWords + 5 → count ≤ length buffer → FloatsStand ws place 7 count buffer
+    pub floats-stand : (place : ℕ) (buffer : List Float) → place ≤ firstCell + 5 → count ≤ length buffer → FloatsStand ws place 7 count buffer
     floats-stand place buffer l room = record { inside = λ k i. omega (arith, long); small = omega (arith, many, h .few); room = room }
 
-    pub distances-stand : {number : ℕ} (buffer : List Float) → number ≡ count * (getD ws 0 0 / 32 % 32) → number ≤ length buffer → FloatsStand ws (headWords + 7 * count + 1) 2 number buffer
+    pub distances-stand : {number : ℕ} (buffer : List Float) → number ≡ count * (getD ws 0 0 / 32 % 32) → number ≤ length buffer → FloatsStand ws (firstCell + 7 * count + 1) 2 number buffer
     distances-stand buffer e room = record { inside = λ k i. omega (arith, long); small = omega (arith, product, many, h .few); room = room }
 
   -- ---- checked and stored
@@ -134,28 +134,28 @@ module _ (ws : List ℕ) where
         row-answer = rw (row-fits, row-size ws, row-before)
 
         -- where each float is read
-        at : (i k : ℕ) → floatAt ws (headWords + i + 7 * k) ≡ floatAt ws (headWords + 7 * k + i)
-        at i k = let plus : headWords + i + 7 * k ≡ headWords + 7 * k + i = omega arith in ap (floatAt ws) plus
+        at : (i k : ℕ) → floatAt ws (firstCell + i + 7 * k) ≡ floatAt ws (firstCell + 7 * k + i)
+        at i k = let plus : firstCell + i + 7 * k ≡ firstCell + 7 * k + i = omega arith in ap (floatAt ws) plus
 
         pub row-filled : {elements : List ℕ} {intrinsics : List Float} {near : List ℕ} {rawLogs : List Float} {parents : List ℕ} {scores distances : List Float}
-            → elements ≡ entriesStored count (λ k. getD ws (headWords + 7 * k) 0 / 1 % 1024) (b .elements)
-            → intrinsics ≡ entriesStored count (λ k. floatAt ws (headWords + 1 + 7 * k)) (b .intrinsics)
-            → near ≡ entriesStored count (λ k. getD ws (headWords + 7 * k) 0 / 1024 % 2) (b .near)
-            → rawLogs ≡ entriesStored count (λ k. floatAt ws (headWords + 3 + 7 * k)) (b .rawLogs)
-            → parents ≡ entriesStored count (λ k. getD ws (headWords + 7 * k) 0 / 2048 % 32) (b .parents)
-            → scores ≡ entriesStored count (λ k. floatAt ws (headWords + 5 + 7 * k)) (b .scores)
-            → distances ≡ entriesStored number (λ k. floatAt ws (headWords + 7 * count + 1 + 2 * k)) (b .distances)
+            → elements ≡ entriesStored count (λ k. getD ws (firstCell + 7 * k) 0 / 1 % 1024) (b .elements)
+            → intrinsics ≡ entriesStored count (λ k. floatAt ws (firstCell + 1 + 7 * k)) (b .intrinsics)
+            → near ≡ entriesStored count (λ k. getD ws (firstCell + 7 * k) 0 / 1024 % 2) (b .near)
+            → rawLogs ≡ entriesStored count (λ k. floatAt ws (firstCell + 3 + 7 * k)) (b .rawLogs)
+            → parents ≡ entriesStored count (λ k. getD ws (firstCell + 7 * k) 0 / 2048 % 32) (b .parents)
+            → scores ≡ entriesStored count (λ k. floatAt ws (firstCell + 5 + 7 * k)) (b .scores)
+            → distances ≡ entriesStored number (λ k. floatAt ws (firstCell + 7 * count + 1 + 2 * k)) (b .distances)
             → rowBuffersOf elements intrinsics near rawLogs parents scores distances ≡ filled (rowFitted b (readRow ws)) b
         unfolding filled
         row-filled q1 q2 q3 q4 q5 q6 q7 =
             let each = rooms (rowSize (readRow ws)) b room in
-            let e1 = q1 ∙ column-listed (λ (c : Cell). c .candidate .element) (λ k. getD ws (headWords + 7 * k) 0 / 1 % 1024) (b .elements) (λ k. ap (λ (w : ℕ). w % 1024) (div-one (getD ws (headWords + 7 * k) 0))) (each .elements) in
-            let e2 = q2 ∙ column-listed (λ (c : Cell). c .candidate .intrinsic) (λ k. floatAt ws (headWords + 1 + 7 * k)) (b .intrinsics) (at 1) (each .intrinsics) in
-            let e3 = q3 ∙ column-listed (λ (c : Cell). c .candidate .near) (λ k. getD ws (headWords + 7 * k) 0 / 1024 % 2) (b .near) (λ k. refl) (each .near) in
-            let e4 = q4 ∙ column-listed (λ (c : Cell). c .candidate .«raw_log») (λ k. floatAt ws (headWords + 3 + 7 * k)) (b .rawLogs) (at 3) (each .rawLogs) in
-            let e5 = q5 ∙ column-listed (λ (c : Cell). c .parent) (λ k. getD ws (headWords + 7 * k) 0 / 2048 % 32) (b .parents) (λ k. refl) (each .parents) in
-            let e6 = q6 ∙ column-listed (λ (c : Cell). c .score) (λ k. floatAt ws (headWords + 5 + 7 * k)) (b .scores) (at 5) (each .scores) in
-            let e7 = q7 ∙ entries-listed nan (readRow ws .distances) (b .distances) (λ k. floatAt ws (headWords + 7 * count + 1 + 2 * k)) (e ∙ sym row-number) d (λ k i. float-distance nan k (omega arith)) in
+            let e1 = q1 ∙ column-listed (λ (c : Cell). c .candidate .element) (λ k. getD ws (firstCell + 7 * k) 0 / 1 % 1024) (b .elements) (λ k. ap (λ (w : ℕ). w % 1024) (div-one (getD ws (firstCell + 7 * k) 0))) (each .elements) in
+            let e2 = q2 ∙ column-listed (λ (c : Cell). c .candidate .intrinsic) (λ k. floatAt ws (firstCell + 1 + 7 * k)) (b .intrinsics) (at 1) (each .intrinsics) in
+            let e3 = q3 ∙ column-listed (λ (c : Cell). c .candidate .near) (λ k. getD ws (firstCell + 7 * k) 0 / 1024 % 2) (b .near) (λ k. refl) (each .near) in
+            let e4 = q4 ∙ column-listed (λ (c : Cell). c .candidate .«raw_log») (λ k. floatAt ws (firstCell + 3 + 7 * k)) (b .rawLogs) (at 3) (each .rawLogs) in
+            let e5 = q5 ∙ column-listed (λ (c : Cell). c .parent) (λ k. getD ws (firstCell + 7 * k) 0 / 2048 % 32) (b .parents) (λ k. refl) (each .parents) in
+            let e6 = q6 ∙ column-listed (λ (c : Cell). c .score) (λ k. floatAt ws (firstCell + 5 + 7 * k)) (b .scores) (at 5) (each .scores) in
+            let e7 = q7 ∙ entries-listed nan (readRow ws .distances) (b .distances) (λ k. floatAt ws (firstCell + 7 * count + 1 + 2 * k)) (e ∙ sym row-number) d (λ k i. float-distance nan k (omega arith)) in
             rw row-fits (rw (e1, e2, e3, e4, e5, e6, e7))
 
 -- ---- a row at its place in the journal

@@ -17,13 +17,13 @@ use Rattle.binary64.specs.Values.{pzero}
 use Rattle.binary64.specs.Ranges.{inRange}
 use Rattle.journal.specs.Row.{Cell, Row, noParent, noCell, rowSize, cellOf, scoreOf, scores, predecessor, sizeOf}
 use Rattle.journal.specs.Ranges.{rowLimit, lowestScore, parentOk, scoreOk, cellOk}
-use Rattle.journal.specs.Record.{headWords, recordLength, readRow}
+use Rattle.journal.specs.Record.{firstCell, recordLength, readRow}
 use Rattle.journal.specs.Journal.{words, predecessorPlace, recordOn}
 use Rattle.journal.specs.WellFormed.{Obey}
 use Rattle.journal.proofs.Lists.{all-at, each-at, each-intro}
 use Rattle.journal.proofs.Rules.{CellRules, cell-rules, row-rules}
 use Rattle.journal.proofs.Reading.{length-record, words-small}
-use Rattle.journal.proofs.Walk.{place-inside, place-scores, place-quiet, place-past}
+use Rattle.journal.proofs.Walk.{place-inside, place-scores, place-no-score, place-past}
 use Rattle.journal.proofs.Ends.{formed, back, Ended, ended-room, ended-turn}
 use Rattle.journal.proofs.Places.{row-obeys, row-at, row-inside, row-names}
 use Rattle.rows.specs.inner.Scoring.{CandidateStands}
@@ -64,7 +64,7 @@ module _ (r : Row) (rs : List Row) (o : Obey (r ∷ rs)) where
       (each-intro (λ (c : Cell). T (le (c .score) pzero)) (r .cells) noCell (λ k l. score-low (length rs) (cellOf r k .score) (rules k l .score))) (unfold le in tt)
 
   -- its record holds its candidates
-  pub obey-room : headWords + 7 * rowSize r ≤ length (recordOn rs r)
+  pub obey-room : firstCell + 7 * rowSize r ≤ length (recordOn rs r)
   unfolding recordLength
   obey-room = omega (arith, length-record (predecessorPlace rs) r (o .0 .0 .number))
 
@@ -152,7 +152,7 @@ module _ (s : List ℕ) (b : Back) (h : Reached s b) (left : 0 < b .rows) where
   pub step-row : readRow (drop (b .end - back s (b .end)) s) ≡ here
   step-row = rw step-place (row-at s (rowsIn s) (h .reads) passed here earlier split-at)
 
-  step-inside : headWords + 7 * rowSize (readRow (drop (b .end - back s (b .end)) s)) ≤ length (drop (b .end - back s (b .end)) s)
+  step-inside : firstCell + 7 * rowSize (readRow (drop (b .end - back s (b .end)) s)) ≤ length (drop (b .end - back s (b .end)) s)
   step-inside =
       rw (step-row, length-drop (b .end - back s (b .end)) s)
       (omega (arith, step-place, obey-room here earlier obeys, row-inside s (rowsIn s) (h .reads) passed here earlier split-at))
@@ -175,7 +175,7 @@ module _ (s : List ℕ) (b : Back) (h : Reached s b) (left : 0 < b .rows) where
   scores-yes e = place-scores here earlier (sym step-place ∙ e ∙ latest-is-here)
 
   scores-no : (b .end - back s (b .end) ≡ b .latest → ⊥) → scores here ≡ false
-  scores-no n = place-quiet here earlier (λ k. n (step-place ∙ k ∙ sym latest-is-here))
+  scores-no n = place-no-score here earlier (λ k. n (step-place ∙ k ∙ sym latest-is-here))
 
   -- ---- over its record
 

@@ -1,10 +1,10 @@
 // Columns of a record, stored in the first entries of lent buffers.
 use journal::float::float_at;
-use journal::record::HEAD_WORDS;
+use journal::record::FIRST_CELL;
 ghost use mathlib.Core.Path.{_≡_};
 ghost use Prim.Native.Nat.{_+_, _*_, _/_, _%_, min};
 ghost use lib.ListN.{getD};
-ghost use Rattle.journal.specs.Record.{headWords, floatAt};
+ghost use Rattle.journal.specs.Record.{firstCell, floatAt};
 ghost use Rattle.closing.specs.inner.Buffer.{FieldsStand, FloatsStand, entriesStored};
 
 pub fn least(a: usize, b: usize) -> usize
@@ -19,10 +19,10 @@ pub fn least(a: usize, b: usize) -> usize
 // A field of the first word of each of n candidates: what is left of the word divided by `unit`, below `limit`.
 pub fn copy_fields(words: &[u32], n: usize, unit: u32, limit: u32, buffer: &mut [u32])
     requires { ⌜ FieldsStand (now words) n unit limit (now buffer) ⌝ }
-    ensures { λ _. ⌜ now (buffer .exit) ≡ entriesStored n (λ k. getD (now (words .entry)) (headWords + 7 * k) 0 / unit % limit) (now (buffer .entry)) ⌝ }
+    ensures { λ _. ⌜ now (buffer .exit) ≡ entriesStored n (λ k. getD (now (words .entry)) (firstCell + 7 * k) 0 / unit % limit) (now (buffer .entry)) ⌝ }
 {
     for k in 0..n {
-        buffer[k] = words[HEAD_WORDS + 7 * k] / unit % limit;
+        buffer[k] = words[FIRST_CELL + 7 * k] / unit % limit;
     }
 }
 

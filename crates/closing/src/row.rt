@@ -5,7 +5,7 @@ use crate::buffer::least;
 use journal::call::end_before;
 use journal::check::Survey;
 use journal::check::read_journal;
-use journal::record::HEAD_WORDS;
+use journal::record::FIRST_CELL;
 use journal::record::distance_count;
 ghost use mathlib.Core.Path.{_≡_};
 ghost use Rattle.journal.specs.Record.{readRow};
@@ -49,12 +49,12 @@ fn copy_row(
         return RowRead::Refused(15);
     }
     copy_fields(words, count, 1, 1024, elements);
-    copy_floats(words, HEAD_WORDS + 1, 7, count, intrinsics);
+    copy_floats(words, FIRST_CELL + 1, 7, count, intrinsics);
     copy_fields(words, count, 1024, 2, near);
-    copy_floats(words, HEAD_WORDS + 3, 7, count, raw_logs);
+    copy_floats(words, FIRST_CELL + 3, 7, count, raw_logs);
     copy_fields(words, count, 2048, 32, parents);
-    copy_floats(words, HEAD_WORDS + 5, 7, count, scores);
-    copy_floats(words, HEAD_WORDS + 7 * count + 1, 2, number, distances);
+    copy_floats(words, FIRST_CELL + 5, 7, count, scores);
+    copy_floats(words, FIRST_CELL + 7 * count + 1, 2, number, distances);
     RowRead::Row(count, before)
 }
 

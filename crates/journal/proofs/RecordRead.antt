@@ -13,7 +13,7 @@ use Rattle.lists.specs.Loops.{anyBelow}
 use Rattle.lists.proofs.Loops.{any-same}
 use Rattle.journal.specs.Row.{Cell, Row, noCell, rowSize, cellOf, scoreOf, scores, beforeOf}
 use Rattle.journal.specs.Ranges.{candidateLimit}
-use Rattle.journal.specs.Record.{headWords, recordLength, recordOf, floatAt, readCell, readDistance, headCount, headBefore, readRow}
+use Rattle.journal.specs.Record.{firstCell, recordLength, recordOf, floatAt, readCell, readDistance, headCount, headBefore, readRow}
 use Rattle.journal.specs.Journal.{rowOk}
 use Rattle.journal.specs.inner.Check.{wellRead, bodyReads, recordAt}
 use Rattle.journal.specs.declared.read.Record.{Record}
@@ -26,30 +26,30 @@ use Rattle.journal.proofs.Records.{length-each, getD-each, rowAt, row-i
 
 pub row-size : (ws : List ℕ) → rowSize (readRow ws) ≡ headCount (getD ws 0 0)
 unfolding readRow
-row-size ws = length-each readCell 7 (headCount (getD ws 0 0)) (drop headWords ws)
+row-size ws = length-each readCell 7 (headCount (getD ws 0 0)) (drop firstCell ws)
 
-pub row-cell : (ws : List ℕ) (k : ℕ) → k < rowSize (readRow ws) → cellOf (readRow ws) k ≡ readCell (drop (headWords + 7 * k) ws)
+pub row-cell : (ws : List ℕ) (k : ℕ) → k < rowSize (readRow ws) → cellOf (readRow ws) k ≡ readCell (drop (firstCell + 7 * k) ws)
 unfolding readRow
 row-cell ws k h =
-    let l : k < headCount (getD ws 0 0) = omega (arith, length-each readCell 7 (headCount (getD ws 0 0)) (drop headWords ws)) in
-    getD-each readCell 7 (headCount (getD ws 0 0)) (drop headWords ws) k noCell l ∙ ap readCell (drop-drop (7 * k) headWords ws)
+    let l : k < headCount (getD ws 0 0) = omega (arith, length-each readCell 7 (headCount (getD ws 0 0)) (drop firstCell ws)) in
+    getD-each readCell 7 (headCount (getD ws 0 0)) (drop firstCell ws) k noCell l ∙ ap readCell (drop-drop (7 * k) firstCell ws)
 
-pub row-score : (ws : List ℕ) (k : ℕ) → k < rowSize (readRow ws) → scoreOf (readRow ws) k ≡ floatAt ws (headWords + 7 * k + 5)
-row-score ws k h = ap (λ (c : Cell). c .score) (row-cell ws k h) ∙ drop-float (headWords + 7 * k) 5 ws
+pub row-score : (ws : List ℕ) (k : ℕ) → k < rowSize (readRow ws) → scoreOf (readRow ws) k ≡ floatAt ws (firstCell + 7 * k + 5)
+row-score ws k h = ap (λ (c : Cell). c .score) (row-cell ws k h) ∙ drop-float (firstCell + 7 * k) 5 ws
 
-pub row-distance : (ws : List ℕ) (d : Float) (k : ℕ) → k < rowSize (readRow ws) * readRow ws .before → getD (readRow ws .distances) k d ≡ floatAt ws (headWords + 7 * rowSize (readRow ws) + 1 + 2 * k)
+pub row-distance : (ws : List ℕ) (d : Float) (k : ℕ) → k < rowSize (readRow ws) * readRow ws .before → getD (readRow ws .distances) k d ≡ floatAt ws (firstCell + 7 * rowSize (readRow ws) + 1 + 2 * k)
 unfolding readRow
 row-distance ws d k h =
     let c = headCount (getD ws 0 0) in
     let p = headBefore (getD ws 0 0) in
     let l : k < c * p = rw (row-size ws) at h in
-    let place : headWords + 7 * c + 1 + 2 * k + 0 ≡ headWords + 7 * rowSize (readRow ws) + 1 + 2 * k = omega (arith, row-size ws) in
-    getD-each readDistance 2 (c * p) (drop 1 (drop (7 * c) (drop headWords ws))) k d l
+    let place : firstCell + 7 * c + 1 + 2 * k + 0 ≡ firstCell + 7 * rowSize (readRow ws) + 1 + 2 * k = omega (arith, row-size ws) in
+    getD-each readDistance 2 (c * p) (drop 1 (drop (7 * c) (drop firstCell ws))) k d l
     ∙ ap readDistance (
-    ap (λ (xs : List ℕ). drop (2 * k) (drop 1 xs)) (drop-drop (7 * c) headWords ws)
-    ∙ ap (drop (2 * k)) (drop-drop 1 (headWords + 7 * c) ws)
-    ∙ drop-drop (2 * k) (headWords + 7 * c + 1) ws)
-    ∙ drop-float (headWords + 7 * c + 1 + 2 * k) 0 ws
+    ap (λ (xs : List ℕ). drop (2 * k) (drop 1 xs)) (drop-drop (7 * c) firstCell ws)
+    ∙ ap (drop (2 * k)) (drop-drop 1 (firstCell + 7 * c) ws)
+    ∙ drop-drop (2 * k) (firstCell + 7 * c + 1) ws)
+    ∙ drop-float (firstCell + 7 * c + 1 + 2 * k) 0 ws
     ∙ ap (floatAt ws) place
 
 -- ---- what the row reader finds
@@ -63,11 +63,11 @@ record-none place q n [] e = unfold recordAt wellRead recordOf in refl
 record-none place q n (w ∷ ws) e = absurd (omega arith)
 
 -- its scores
-scores-at : (w : ℕ) (body : List ℕ) → scores (rowAt w body) ≡ anyBelow (headCount w) (λ k. finite (floatAt (w ∷ body) (headWords + 7 * k + 5)))
+scores-at : (w : ℕ) (body : List ℕ) → scores (rowAt w body) ≡ anyBelow (headCount w) (λ k. finite (floatAt (w ∷ body) (firstCell + 7 * k + 5)))
 unfolding scores readRow
 scores-at w body =
     ap (λ (m : ℕ). anyBelow m (λ i. finite (scoreOf (rowAt w body) i))) (size-is w body)
-    ∙ any-same (headCount w) (λ i. finite (scoreOf (rowAt w body) i)) (λ k. finite (floatAt (w ∷ body) (headWords + 7 * k + 5)))
+    ∙ any-same (headCount w) (λ i. finite (scoreOf (rowAt w body) i)) (λ k. finite (floatAt (w ∷ body) (firstCell + 7 * k + 5)))
     (λ k h. ap finite (row-score (w ∷ body) k (omega (arith, size-is w body))))
 
 length-at : (place w : ℕ) (body : List ℕ) → length (recordOf place (rowAt w body)) ≡ recordLength (headCount w) (headBefore w)
@@ -76,7 +76,7 @@ length-at place w body =
     ∙ ap (λ (k : ℕ). recordLength k (headBefore w)) (size-is w body)
 
 abbrev pub found : ℕ → ℕ → List ℕ → Record
-found c p ws = Whole (recordLength c p) c (anyBelow c (λ k. finite (floatAt ws (headWords + 7 * k + 5))))
+found c p ws = Whole (recordLength c p) c (anyBelow c (λ k. finite (floatAt ws (firstCell + 7 * k + 5))))
 
 found-at : (place w : ℕ) (body : List ℕ) → Whole (length (recordOf place (rowAt w body))) (rowSize (rowAt w body)) (scores (rowAt w body)) ≡ found (headCount w) (headBefore w) (w ∷ body)
 found-at place w body = cc (length-at place w body, size-is w body, scores-at w body)

@@ -16,7 +16,7 @@ use Rattle.binary64.proofs.Order.{same-test}
 use Rattle.journal.specs.Lists.{each, flat, starts}
 use Rattle.journal.specs.Row.{Cell, Row, rowSize, beforeOf}
 use Rattle.journal.specs.Ranges.{candidateLimit, distanceOk, cellOk}
-use Rattle.journal.specs.Record.{headWord, distancesWord, lengthWord, predecessorWord, headWords, cellWords, floatWords, recordLength, recordOf, readCell, readDistance, readEach, headCount, headBefore, readRow}
+use Rattle.journal.specs.Record.{headWord, distancesWord, lengthWord, predecessorWord, firstCell, cellWords, floatWords, recordLength, recordOf, readCell, readDistance, readEach, headCount, headBefore, readRow}
 use Rattle.journal.specs.Journal.{rowOk}
 use Rattle.journal.specs.inner.Check.{wellRead, bodyReads}
 use Rattle.journal.proofs.Rules.{five, of-five, six, of-six, row-rules, rules-row}
@@ -130,22 +130,22 @@ module _ (w : ℕ) (body : List ℕ) where
   long-distances = length-floats (distancesAt w body) ∙ ap (λ (n : ℕ). 2 * n) number-is
 
   -- where its parts start
-  cells-are : drop 1 body ≡ drop headWords (w ∷ body)
+  cells-are : drop 1 body ≡ drop firstCell (w ∷ body)
   cells-are = drop-drop 1 1 (w ∷ body)
 
-  gap-is : gapAt w body ≡ drop (headWords + 7 * headCount w) (w ∷ body)
-  gap-is = ap (drop (7 * headCount w)) cells-are ∙ drop-drop (7 * headCount w) headWords (w ∷ body)
+  gap-is : gapAt w body ≡ drop (firstCell + 7 * headCount w) (w ∷ body)
+  gap-is = ap (drop (7 * headCount w)) cells-are ∙ drop-drop (7 * headCount w) firstCell (w ∷ body)
 
-  past-gap : drop 1 (gapAt w body) ≡ drop (headWords + 7 * headCount w + 1) (w ∷ body)
-  past-gap = ap (drop 1) gap-is ∙ drop-drop 1 (headWords + 7 * headCount w) (w ∷ body)
+  past-gap : drop 1 (gapAt w body) ≡ drop (firstCell + 7 * headCount w + 1) (w ∷ body)
+  past-gap = ap (drop 1) gap-is ∙ drop-drop 1 (firstCell + 7 * headCount w) (w ∷ body)
 
   end-is : drop (2 * (headCount w * headBefore w)) (drop 1 (gapAt w body)) ≡ drop (recordLength (headCount w) (headBefore w) - 1) (w ∷ body)
   end-is =
       ap (drop (2 * (headCount w * headBefore w))) past-gap
-      ∙ drop-drop (2 * (headCount w * headBefore w)) (headWords + 7 * headCount w + 1) (w ∷ body)
+      ∙ drop-drop (2 * (headCount w * headBefore w)) (firstCell + 7 * headCount w + 1) (w ∷ body)
       ∙ ap (λ (n : ℕ). drop n (w ∷ body)) plus
     where
-      plus : headWords + 7 * headCount w + 1 + 2 * (headCount w * headBefore w) ≡ recordLength (headCount w) (headBefore w) - 1
+      plus : firstCell + 7 * headCount w + 1 + 2 * (headCount w * headBefore w) ≡ recordLength (headCount w) (headBefore w) - 1
       plus = unfold recordLength in omega arith
 
   -- its words stand there part by part
@@ -153,7 +153,7 @@ module _ (w : ℕ) (body : List ℕ) where
       ≡ eqb (headWord (headCount w) (headBefore w)) w
       && (starts (predecessorWord place ∷ []) body
       && (starts (flat cellWords (cellsAt w body)) (drop 1 body)
-      && (starts (distancesWord (headCount w * headBefore w) ∷ []) (drop (headWords + 7 * headCount w) (w ∷ body))
+      && (starts (distancesWord (headCount w * headBefore w) ∷ []) (drop (firstCell + 7 * headCount w) (w ∷ body))
       && (starts (flat floatWords (distancesAt w body)) (drop 1 (gapAt w body)) && starts (last ∷ []) (drop (recordLength (headCount w) (headBefore w) - 1) (w ∷ body))))))
   record-starts place =
       let v = predecessorWord place ∷ [] in
@@ -169,33 +169,33 @@ module _ (w : ℕ) (body : List ℕ) where
       (ap (λ (n : ℕ). starts (d ++ (fs ++ (last ∷ []))) (drop n (drop 1 body))) long-cells
       ∙ starts-append d (fs ++ (last ∷ [])) (gapAt w body)
       ∙ ap (λ (l : List ℕ). starts d l && starts (fs ++ (last ∷ [])) (drop 1 (gapAt w body))) gap-is
-      ∙ ap (λ (b : Bool). starts d (drop (headWords + 7 * headCount w) (w ∷ body)) && b)
+      ∙ ap (λ (b : Bool). starts d (drop (firstCell + 7 * headCount w) (w ∷ body)) && b)
       (starts-append fs (last ∷ []) (drop 1 (gapAt w body))
       ∙ ap (λ (n : ℕ). starts fs (drop 1 (gapAt w body)) && starts (last ∷ []) (drop n (drop 1 (gapAt w body)))) long-distances
       ∙ ap (λ (l : List ℕ). starts fs (drop 1 (gapAt w body)) && starts (last ∷ []) l) end-is))))
 
   -- its cells, and its distances, word by word
   cells-test : (n : ℕ) → starts (flat cellWords (cellsAt w body)) (drop 1 body) && each (cellOk (headBefore w) n) (cellsAt w body)
-      ≡ everyBelow (headCount w) (λ k. wellRead cellWords readCell (cellOk (headBefore w) n) (drop (headWords + 7 * k) (w ∷ body)))
+      ≡ everyBelow (headCount w) (λ k. wellRead cellWords readCell (cellOk (headBefore w) n) (drop (firstCell + 7 * k) (w ∷ body)))
   cells-test n =
       each-test readCell 7 cellWords (cellOk (headBefore w) n) (λ c. refl) (headCount w) (drop 1 body)
-      ∙ every-same (headCount w) (λ k. wellRead cellWords readCell (cellOk (headBefore w) n) (drop (7 * k) (drop 1 body))) (λ k. wellRead cellWords readCell (cellOk (headBefore w) n) (drop (headWords + 7 * k) (w ∷ body)))
-      (λ k. ap (wellRead cellWords readCell (cellOk (headBefore w) n)) (ap (drop (7 * k)) cells-are ∙ drop-drop (7 * k) headWords (w ∷ body)))
+      ∙ every-same (headCount w) (λ k. wellRead cellWords readCell (cellOk (headBefore w) n) (drop (7 * k) (drop 1 body))) (λ k. wellRead cellWords readCell (cellOk (headBefore w) n) (drop (firstCell + 7 * k) (w ∷ body)))
+      (λ k. ap (wellRead cellWords readCell (cellOk (headBefore w) n)) (ap (drop (7 * k)) cells-are ∙ drop-drop (7 * k) firstCell (w ∷ body)))
 
   distances-test : starts (flat floatWords (distancesAt w body)) (drop 1 (gapAt w body)) && each distanceOk (distancesAt w body)
-      ≡ everyBelow (headCount w * headBefore w) (λ k. wellRead floatWords readDistance distanceOk (drop (headWords + 7 * headCount w + 1 + 2 * k) (w ∷ body)))
+      ≡ everyBelow (headCount w * headBefore w) (λ k. wellRead floatWords readDistance distanceOk (drop (firstCell + 7 * headCount w + 1 + 2 * k) (w ∷ body)))
   distances-test =
       each-test readDistance 2 floatWords distanceOk (λ x. refl) (headCount w * headBefore w) (drop 1 (gapAt w body))
       ∙ every-same (headCount w * headBefore w) (λ k. wellRead floatWords readDistance distanceOk (drop (2 * k) (drop 1 (gapAt w body))))
-      (λ k. wellRead floatWords readDistance distanceOk (drop (headWords + 7 * headCount w + 1 + 2 * k) (w ∷ body)))
-      (λ k. ap (wellRead floatWords readDistance distanceOk) (ap (drop (2 * k)) past-gap ∙ drop-drop (2 * k) (headWords + 7 * headCount w + 1) (w ∷ body)))
+      (λ k. wellRead floatWords readDistance distanceOk (drop (firstCell + 7 * headCount w + 1 + 2 * k) (w ∷ body)))
+      (λ k. ap (wellRead floatWords readDistance distanceOk) (ap (drop (2 * k)) past-gap ∙ drop-drop (2 * k) (firstCell + 7 * headCount w + 1) (w ∷ body)))
 
 -- where all but the last word pass, the last word decides
 pub body-last : (place c p n : ℕ) (ws : List ℕ) (l m : ℕ) → l ≡ recordLength c p → m ≡ c * p
     → eqb (getD ws 1 0) (predecessorWord place) ≡ true
-    → everyBelow c (λ k. wellRead cellWords readCell (cellOk p n) (drop (headWords + 7 * k) ws)) ≡ true
-    → eqb (getD ws (headWords + 7 * c) 0) (distancesWord m) ≡ true
-    → everyBelow m (λ k. wellRead floatWords readDistance distanceOk (drop (headWords + 7 * c + 1 + 2 * k) ws)) ≡ true
+    → everyBelow c (λ k. wellRead cellWords readCell (cellOk p n) (drop (firstCell + 7 * k) ws)) ≡ true
+    → eqb (getD ws (firstCell + 7 * c) 0) (distancesWord m) ≡ true
+    → everyBelow m (λ k. wellRead floatWords readDistance distanceOk (drop (firstCell + 7 * c + 1 + 2 * k) ws)) ≡ true
     → eqb (getD ws (l - 1) 0) (lengthWord l) ≡ bodyReads place c p n ws
 unfolding bodyReads
 body-last place c p n ws l m e f v a b d = rw (← e, ← f, v, a, b, d)
@@ -223,12 +223,12 @@ module _ (place q n w : ℕ) (body : List ℕ) where
   here t =
       let d = distancesWord (c * p) in
       let l = last w body in
-      let s = six (eqb (headWord c p) w) (starts (predecessorWord place ∷ []) body) (starts (flat cellWords (cellsAt w body)) (drop 1 body)) (starts (d ∷ []) (drop (headWords + 7 * c) ws)) (starts (flat floatWords (distancesAt w body)) (drop 1 (gapAt w body))) (starts (l ∷ []) (drop (recordLength c p - 1) ws))
+      let s = six (eqb (headWord c p) w) (starts (predecessorWord place ∷ []) body) (starts (flat cellWords (cellsAt w body)) (drop 1 body)) (starts (d ∷ []) (drop (firstCell + 7 * c) ws)) (starts (flat floatWords (distancesAt w body)) (drop 1 (gapAt w body))) (starts (l ∷ []) (drop (recordLength c p - 1) ws))
       (subst T (record-starts w body place) (and-l (starts (recordOf place (rowAt w body)) ws) (rowOk q n (rowAt w body)) t)) in
       let rules = row-rules q n (rowAt w body) (and-r (starts (recordOf place (rowAt w body)) ws) (rowOk q n (rowAt w body)) t) in
       let head = eqb→eq (headWord c p) w (s .0) in
       let place-word = one (predecessorWord place) body (s .1) in
-      let middle = one d (drop (headWords + 7 * c) ws) (s .3) in
+      let middle = one d (drop (firstCell + 7 * c) ws) (s .3) in
       let end = one l (drop (recordLength c p - 1) ws) (s .5) in
       let kind : w / 1024 ≡ 262144 = omega arith in
       let few : c ≤ candidateLimit = omega (arith, size-is w body, rules .few) in
@@ -238,10 +238,10 @@ module _ (place q n w : ℕ) (body : List ℕ) where
       (le→leb c candidateLimit few)
       (eq→eqb (rules .before ∙ ap (beforeOf q) (size-is w body)))
       (le→leb (recordLength c p) (length ws) room)
-      (of-five (eqb (getD ws 1 0) (predecessorWord place)) (everyBelow c (λ k. wellRead cellWords readCell (cellOk p n) (drop (headWords + 7 * k) ws))) (eqb (getD ws (headWords + 7 * c) 0) d) (everyBelow (c * p) (λ k. wellRead floatWords readDistance distanceOk (drop (headWords + 7 * c + 1 + 2 * k) ws))) (eqb (getD ws (recordLength c p - 1) 0) l)
+      (of-five (eqb (getD ws 1 0) (predecessorWord place)) (everyBelow c (λ k. wellRead cellWords readCell (cellOk p n) (drop (firstCell + 7 * k) ws))) (eqb (getD ws (firstCell + 7 * c) 0) d) (everyBelow (c * p) (λ k. wellRead floatWords readDistance distanceOk (drop (firstCell + 7 * c + 1 + 2 * k) ws))) (eqb (getD ws (recordLength c p - 1) 0) l)
       (eq→eqb (place-word .1))
       (subst T (cells-test w body n) (and-i (starts (flat cellWords (cellsAt w body)) (drop 1 body)) (each (cellOk p n) (cellsAt w body)) (s .2) (rules .cells)))
-      (eq→eqb (sym (drop-first (headWords + 7 * c) ws) ∙ middle .1))
+      (eq→eqb (sym (drop-first (firstCell + 7 * c) ws) ∙ middle .1))
       (subst T (distances-test w body) (and-i (starts (flat floatWords (distancesAt w body)) (drop 1 (gapAt w body))) (each distanceOk (distancesAt w body)) (s .4) (rules .distances)))
       (eq→eqb (sym (drop-first (recordLength c p - 1) ws) ∙ end .1)))
 
@@ -250,10 +250,10 @@ module _ (place q n w : ℕ) (body : List ℕ) where
   there t =
       let d = distancesWord (c * p) in
       let l = last w body in
-      let cells = everyBelow c (λ k. wellRead cellWords readCell (cellOk p n) (drop (headWords + 7 * k) ws)) in
-      let floats = everyBelow (c * p) (λ k. wellRead floatWords readDistance distanceOk (drop (headWords + 7 * c + 1 + 2 * k) ws)) in
+      let cells = everyBelow c (λ k. wellRead cellWords readCell (cellOk p n) (drop (firstCell + 7 * k) ws)) in
+      let floats = everyBelow (c * p) (λ k. wellRead floatWords readDistance distanceOk (drop (firstCell + 7 * c + 1 + 2 * k) ws)) in
       let s = five (eqb (w / 1024) 262144) (leb c candidateLimit) (eqb p (beforeOf q c)) (leb (recordLength c p) (length ws)) (bodyReads place c p n ws) t in
-      let b = five (eqb (getD ws 1 0) (predecessorWord place)) cells (eqb (getD ws (headWords + 7 * c) 0) d) floats (eqb (getD ws (recordLength c p - 1) 0) l) (s .4) in
+      let b = five (eqb (getD ws 1 0) (predecessorWord place)) cells (eqb (getD ws (firstCell + 7 * c) 0) d) floats (eqb (getD ws (recordLength c p - 1) 0) l) (s .4) in
       let kind = eqb→eq (w / 1024) 262144 (s .0) in
       let few = leb→le c candidateLimit (s .1) in
       let room = leb→le (recordLength c p) (length ws) (s .3) in
@@ -264,11 +264,11 @@ module _ (place q n w : ℕ) (body : List ℕ) where
       let one-float = starts (flat floatWords (distancesAt w body)) (drop 1 (gapAt w body)) in
       and-i (starts (recordOf place (rowAt w body)) ws) (rowOk q n (rowAt w body))
       (subst T (sym (record-starts w body place))
-      (of-six (eqb (headWord c p) w) (starts (predecessorWord place ∷ []) body) one-cell (starts (d ∷ []) (drop (headWords + 7 * c) ws)) one-float (starts (l ∷ []) (drop (recordLength c p - 1) ws))
+      (of-six (eqb (headWord c p) w) (starts (predecessorWord place ∷ []) body) one-cell (starts (d ∷ []) (drop (firstCell + 7 * c) ws)) one-float (starts (l ∷ []) (drop (recordLength c p - 1) ws))
       (eq→eqb head)
       (of-one (predecessorWord place) body (second room) (eqb→eq (getD ws 1 0) (predecessorWord place) (b .0)))
       (and-l one-cell (each (cellOk p n) (cellsAt w body)) cell)
-      (of-one d (drop (headWords + 7 * c) ws) (inside (headWords + 7 * c) (early room)) (drop-first (headWords + 7 * c) ws ∙ eqb→eq (getD ws (headWords + 7 * c) 0) d (b .2)))
+      (of-one d (drop (firstCell + 7 * c) ws) (inside (firstCell + 7 * c) (early room)) (drop-first (firstCell + 7 * c) ws ∙ eqb→eq (getD ws (firstCell + 7 * c) 0) d (b .2)))
       (and-l one-float (each distanceOk (distancesAt w body)) float)
       (of-one l (drop (recordLength c p - 1) ws) (inside (recordLength c p - 1) (late room)) (drop-first (recordLength c p - 1) ws ∙ eqb→eq (getD ws (recordLength c p - 1) 0) l (b .4)))))
       (rules-row q n (rowAt w body) (record {
@@ -285,7 +285,7 @@ module _ (place q n w : ℕ) (body : List ℕ) where
       second : recordLength c p ≤ length ws → 0 < length body
       second h = unfold recordLength in omega arith
 
-      early : recordLength c p ≤ length ws → headWords + 7 * c < length ws
+      early : recordLength c p ≤ length ws → firstCell + 7 * c < length ws
       early h = unfold recordLength in omega arith
 
       late : recordLength c p ≤ length ws → recordLength c p - 1 < length ws

@@ -12,7 +12,7 @@ use Rattle.journal.specs.Lists.{flat}
 use Rattle.journal.specs.Row.{Cell, Row, noCandidate, noCell, rowSize}
 use Rattle.journal.specs.inner.Row.{cellsOf, CellWritable}
 use Rattle.journal.specs.declared.record.Candidate.{Candidate}
-use Rattle.journal.specs.Record.{headWord, lengthWord, predecessorWord, usedWord, headWords, cellWords, distancesWords, recordLength, recordOf}
+use Rattle.journal.specs.Record.{headWord, lengthWord, predecessorWord, usedWord, firstCell, cellWords, distancesWords, recordLength, recordOf}
 use Rattle.journal.proofs.Lists.{length-flat, flat-append, length-number, getD-number}
 use Rattle.journal.specs.Journal.{put}
 use Rattle.journal.proofs.Reading.{length-cells, length-floats, length-record}
@@ -77,31 +77,31 @@ module _ (cs : List Candidate) (parents : List ℕ) (scores : List Float) where
 
   -- a turn of the loop that stores them
   pub cells-turn : (l old new : List ℕ) (k : ℕ) {c : Candidate} → k < length cs → c ≡ getD cs k noCandidate
-      → old ≡ sets l headWords (flat cellWords (take k (cellsOf cs parents scores)))
-      → new ≡ sets old (headWords + 7 * k) (cellWords (cell k c))
-      → new ≡ sets l headWords (flat cellWords (take (k + 1) (cellsOf cs parents scores)))
+      → old ≡ sets l firstCell (flat cellWords (take k (cellsOf cs parents scores)))
+      → new ≡ sets old (firstCell + 7 * k) (cellWords (cell k c))
+      → new ≡ sets l firstCell (flat cellWords (take (k + 1) (cellsOf cs parents scores)))
   cells-turn l old new k {c} h own e f =
       f
-      ∙ ap (λ (ws : List ℕ). sets ws (headWords + 7 * k) (cellWords (cell k c))) e
-      ∙ ap (λ (x : Cell). sets (sets l headWords (flat cellWords (take k (cellsOf cs parents scores)))) (headWords + 7 * k) (cellWords x)) (ap (cell k) own ∙ sym (cell-at k h))
-      ∙ stored-turn l headWords 7 k cellWords (cellsOf cs parents scores) noCell (λ c. refl) (rw cells-many h)
+      ∙ ap (λ (ws : List ℕ). sets ws (firstCell + 7 * k) (cellWords (cell k c))) e
+      ∙ ap (λ (x : Cell). sets (sets l firstCell (flat cellWords (take k (cellsOf cs parents scores)))) (firstCell + 7 * k) (cellWords x)) (ap (cell k) own ∙ sym (cell-at k h))
+      ∙ stored-turn l firstCell 7 k cellWords (cellsOf cs parents scores) noCell (λ c. refl) (rw cells-many h)
 
 -- head word, predecessor's place, cells, distances and record length, stored in turn, are the record
 module _ (l cells whole : List ℕ) (place : ℕ) (r : Row) (number : length (r .distances) ≡ rowSize r * r .before) where
   stored : (len : ℕ) → len ≡ recordLength (rowSize r) (r .before)
-      → cells ≡ sets (set (set l 0 (headWord (rowSize r) (r .before))) 1 (predecessorWord place)) headWords (flat cellWords (r .cells))
-      → whole ≡ sets cells (headWords + 7 * rowSize r) (distancesWords (r .distances))
+      → cells ≡ sets (set (set l 0 (headWord (rowSize r) (r .before))) 1 (predecessorWord place)) firstCell (flat cellWords (r .cells))
+      → whole ≡ sets cells (firstCell + 7 * rowSize r) (distancesWords (r .distances))
       → set whole (len - 1) (lengthWord len) ≡ sets l 0 (recordOf place r)
   unfolding recordOf
   stored len e f h =
-      let at : len - 1 ≡ headWords + 7 * rowSize r + suc (2 * length (r .distances)) = unfold recordLength in omega arith in
+      let at : len - 1 ≡ firstCell + 7 * rowSize r + suc (2 * length (r .distances)) = unfold recordLength in omega arith in
       rw (at, h, f, e)
       (five-parts l (headWord (rowSize r) (r .before)) (predecessorWord place) _ (7 * rowSize r) (suc (2 * length (r .distances))) (flat cellWords (r .cells)) (distancesWords (r .distances)) (length-cells (r .cells)) (ap suc (length-floats (r .distances))))
 
   -- the cells are counted elsewhere
   pub row-stored : (n : ℕ) → rowSize r ≡ n → (len : ℕ) → len ≡ recordLength n (r .before)
-      → cells ≡ sets (set (set l 0 (headWord n (r .before))) 1 (predecessorWord place)) headWords (flat cellWords (r .cells))
-      → whole ≡ sets cells (headWords + 7 * n) (distancesWords (r .distances))
+      → cells ≡ sets (set (set l 0 (headWord n (r .before))) 1 (predecessorWord place)) firstCell (flat cellWords (r .cells))
+      → whole ≡ sets cells (firstCell + 7 * n) (distancesWords (r .distances))
       → set whole (len - 1) (lengthWord len) ≡ sets l 0 (recordOf place r)
   row-stored n e = rw (← e) stored
 

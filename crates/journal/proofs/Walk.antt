@@ -74,9 +74,9 @@ module _ (r : Row) (rs : List Row) where
       go true q = refl
       go false q = absurd (omega (arith, place-past q, place-inside rs))
 
-  pub place-quiet : (suc (length (words rs)) ≡ predecessorPlace (r ∷ rs) → ⊥) → scores r ≡ false
+  pub place-no-score : (suc (length (words rs)) ≡ predecessorPlace (r ∷ rs) → ⊥) → scores r ≡ false
   unfolding predecessorPlace
-  place-quiet n = go (scores r) refl
+  place-no-score n = go (scores r) refl
     where
       go : (b : Bool) → scores r ≡ b → b ≡ false
       go true q = absurd (n (rw q))

@@ -16,7 +16,7 @@ use Rattle.binary64.proofs.Order.{taken}
 use Rattle.journal.specs.Lists.{starts}
 use Rattle.journal.specs.Row.{Row, rowSize, predecessor, sizeOf}
 use Rattle.journal.specs.Ranges.{rowLimit}
-use Rattle.journal.specs.Record.{usedWord, headWords, readCell, readDistance, readEach, headCount, headBefore, readRow}
+use Rattle.journal.specs.Record.{usedWord, firstCell, readCell, readDistance, readEach, headCount, headBefore, readRow}
 use Rattle.journal.specs.Journal.{words, recordOn, journal, rowOk, recordOk, readRows, used, usedWords, readJournal}
 use Rattle.journal.specs.WellFormed.{Each, Fitting, CellFits, RowFits, Obey, WellFormed}
 use Rattle.journal.proofs.Lists.{some-none, starts-split}
@@ -44,7 +44,7 @@ distance-fits : (ws : List ℕ) → Fitting (readDistance ws)
 distance-fits ws = ofBits-fits binary64 (getD ws 0 0 * 4294967296 + getD ws 1 0)
 
 row-fit : (rs : List Row) (ws : List ℕ) → Obey rs → T (rowOk (sizeOf (predecessor rs)) (length rs) (readRow ws)) → RowFits (readRow ws)
-row-fit rs ws h ok = go (readRow ws) (unfold readRow in each-fits CellFits readCell 7 cell-fits c (drop headWords ws)) (unfold readRow in each-fits Fitting readDistance 2 distance-fits (c * p) (drop 1 (drop (7 * c) (drop headWords ws)))) ok
+row-fit rs ws h ok = go (readRow ws) (unfold readRow in each-fits CellFits readCell 7 cell-fits c (drop firstCell ws)) (unfold readRow in each-fits Fitting readDistance 2 distance-fits (c * p) (drop 1 (drop (7 * c) (drop firstCell ws)))) ok
   where
     c : ℕ
     c = headCount (getD ws 0 0)

@@ -12,6 +12,10 @@ use Rattle.journal.specs.Row.{Cell, Row, rowSize}
 abbrev pub headWord : ℕ → ℕ → ℕ
 headWord c p = 0x10000000 + c + 32 * p
 
+-- kind 7: where the predecessor's head word stands, counted from word 0, or 0 for none (28)
+abbrev pub predecessorWord : ℕ → ℕ
+predecessorWord place = 0x70000000 + place
+
 -- kind 2: element (10), near (1), parent (5)
 abbrev pub candidateWord : ℕ → ℕ → ℕ → ℕ
 candidateWord element near parent = 0x20000000 + element + 1024 * near + 2048 * parent
@@ -23,10 +27,6 @@ distancesWord n = 0x30000000 + n
 -- kind 4: record length
 abbrev pub lengthWord : ℕ → ℕ
 lengthWord n = 0x40000000 + n
-
--- kind 7: where the predecessor's head word stands, counted from word 0, or 0 for none (28)
-abbrev pub predecessorWord : ℕ → ℕ
-predecessorWord place = 0x70000000 + place
 
 -- word 0, kind 5: used words (28)
 abbrev pub usedWord : ℕ → ℕ
@@ -44,9 +44,9 @@ floatWords x = highHalf x ∷ lowHalf x ∷ []
 
 -- ---- a row's record
 
--- the words before its candidates': the head word and the predecessor's
-abbrev pub headWords : ℕ
-headWords = 2
+-- where its first candidate's words start, past the head word and the predecessor's
+abbrev pub firstCell : ℕ
+firstCell = 2
 
 abbrev pub cellWords : Cell → List ℕ
 cellWords c =
@@ -109,4 +109,5 @@ unfoldable pub readRow : List ℕ → Row
 readRow ws =
     let c = headCount (getD ws 0 0) in
     let p = headBefore (getD ws 0 0) in
-    record { cells = readEach readCell 7 c (drop headWords ws); before = p; distances = readEach readDistance 2 (c * p) (drop 1 (drop (7 * c) (drop headWords ws))) }
+    let body = drop firstCell ws in
+    record { cells = readEach readCell 7 c body; before = p; distances = readEach readDistance 2 (c * p) (drop 1 (drop (7 * c) body)) }

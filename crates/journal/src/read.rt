@@ -8,7 +8,7 @@ use crate::halves::score_reads;
 use crate::range::distance_ok;
 use crate::range::parent_ok;
 use crate::record::Candidate;
-use crate::record::HEAD_WORDS;
+use crate::record::FIRST_CELL;
 use crate::record::distance_count;
 use crate::record::record_length;
 ghost use mathlib.Core.Path.{_≡_};
@@ -18,7 +18,7 @@ ghost use lib.Ieee.Scale.{finite};
 ghost use Rattle.lists.specs.Loops.{anyBelow, everyBelow};
 ghost use Rattle.journal.specs.Row.{beforeOf};
 ghost use Rattle.journal.specs.Ranges.{distanceOk, cellOk};
-ghost use Rattle.journal.specs.Record.{headWords, cellWords, floatWords, floatAt, readCell, readDistance, recordLength};
+ghost use Rattle.journal.specs.Record.{firstCell, cellWords, floatWords, floatAt, readCell, readDistance, recordLength};
 ghost use Rattle.journal.specs.inner.Check.{wellRead, bodyReads, recordAt};
 
 // What stands at the head of some words: no record, or a record's length, its number of candidates and whether its row scores.
@@ -68,12 +68,12 @@ fn cell_reads(words: &[u32], at: usize, p: u32, row: usize) -> bool
 
 // Whether those of c candidates are.
 fn cells_read(words: &[u32], c: usize, p: u32, row: usize) -> bool
-    requires { ⌜ (headWords + 7 * c ≤ length (now words)) × (row < 65536) ⌝ }
-    ensures { λ r. ⌜ r ≡ everyBelow c (λ k. wellRead cellWords readCell (cellOk p row) (drop (headWords + 7 * k) (now (words .entry)))) ⌝ }
+    requires { ⌜ (firstCell + 7 * c ≤ length (now words)) × (row < 65536) ⌝ }
+    ensures { λ r. ⌜ r ≡ everyBelow c (λ k. wellRead cellWords readCell (cellOk p row) (drop (firstCell + 7 * k) (now (words .entry)))) ⌝ }
 {
     let mut k = 0;
     while k < c {
-        if !cell_reads(words, HEAD_WORDS + 7 * k, p, row) {
+        if !cell_reads(words, FIRST_CELL + 7 * k, p, row) {
             return false;
         }
         k += 1;
@@ -117,12 +117,12 @@ fn distances_read(words: &[u32], at: usize, n: usize) -> bool
 
 // Whether one of the scores of c candidates is finite.
 fn scores_read(words: &[u32], c: usize) -> bool
-    requires { ⌜ headWords + 7 * c ≤ length (now words) ⌝ }
-    ensures { λ r. ⌜ r ≡ anyBelow c (λ k. finite (floatAt (now (words .entry)) (headWords + 7 * k + 5))) ⌝ }
+    requires { ⌜ firstCell + 7 * c ≤ length (now words) ⌝ }
+    ensures { λ r. ⌜ r ≡ anyBelow c (λ k. finite (floatAt (now (words .entry)) (firstCell + 7 * k + 5))) ⌝ }
 {
     let mut k = 0;
     while k < c {
-        if finite_reads(words, HEAD_WORDS + 7 * k + 5) {
+        if finite_reads(words, FIRST_CELL + 7 * k + 5) {
             return true;
         }
         k += 1;
@@ -150,7 +150,7 @@ fn body_reads(words: &[u32], place: usize, c: usize, p: usize, row: usize) -> bo
         return false;
     }
     let n = distance_count(c, p);
-    let at = HEAD_WORDS + 7 * c;
+    let at = FIRST_CELL + 7 * c;
     if words[at] != 0x3000_0000 + n as u32 {
         return false;
     }

@@ -11,7 +11,7 @@ ghost use Rattle.journal.specs.Lists.{flat};
 ghost use Rattle.journal.specs.Row.{Cell, Row, noCell};
 ghost use Rattle.journal.specs.inner.Row.{cellsOf, rowOf, CellWritable, RowWritable};
 ghost use Rattle.journal.specs.inner.Fix.{candidatesIn, fixIn, Entries16};
-ghost use Rattle.journal.specs.Record.{cellWords, distancesWords, headWords, recordLength, recordOf};
+ghost use Rattle.journal.specs.Record.{cellWords, distancesWords, firstCell, recordLength, recordOf};
 ghost use Rattle.journal.specs.Journal.{put};
 
 // Document 01's candidate: an element number, an intrinsic, a near flag and a raw log.
@@ -22,8 +22,8 @@ pub struct Candidate {
     pub raw_log: f64,
 }
 
-// The words of a record before its candidates': its head, and its predecessor's place.
-pub const HEAD_WORDS: usize = 2;
+// Where the first candidate's words start in a record, past its head word and its predecessor's.
+pub const FIRST_CELL: usize = 2;
 
 // How many distances c candidates have with p predecessor candidates.
 pub fn distance_count(c: usize, p: usize) -> usize
@@ -55,18 +55,18 @@ fn put_cell(words: &mut [u32], at: usize, c: Candidate, parent: u32, score: f64)
     put_float(words, at + 5, score);
 }
 
-// The words of all candidates, past the head words.
+// The words of all candidates.
 fn put_cells(words: &mut [u32], fix: Candidates, parents: &[u32; 16], scores: &[f64; 16])
     ghost { List Cell }
     requires { λ cells. ⌜ cellsOf (candidatesIn fix) (now parents) (now scores) ≡ cells ⌝ }
     requires { λ _. ⌜ Entries16 fix ⌝ }
     requires { λ cells. ⌜ ((k : ℕ) → k < length cells → CellWritable (getD cells k noCell)) ⌝ }
-    requires { λ cells. ⌜ headWords + 7 * length cells ≤ length (now words) ⌝ }
-    ensures { λ cells _. ⌜ now (words .exit) ≡ sets (now (words .entry)) headWords (flat cellWords cells) ⌝ }
+    requires { λ cells. ⌜ firstCell + 7 * length cells ≤ length (now words) ⌝ }
+    ensures { λ cells _. ⌜ now (words .exit) ≡ sets (now (words .entry)) firstCell (flat cellWords cells) ⌝ }
 {
     for k in 0..fix.count {
         let c = own_candidate(fix, k);
-        put_cell(words, HEAD_WORDS + 7 * k, c, parents[k], scores[k]);
+        put_cell(words, FIRST_CELL + 7 * k, c, parents[k], scores[k]);
     }
 }
 
@@ -106,7 +106,7 @@ fn put_row(
     words[0] = 0x1000_0000 + n as u32 + 32 * p as u32;
     words[1] = 0x7000_0000 + place as u32;
     put_cells(words, fix, parents, scores);
-    put_distances(words, HEAD_WORDS + 7 * n, distances);
+    put_distances(words, FIRST_CELL + 7 * n, distances);
     words[length - 1] = 0x4000_0000 + length as u32;
     length
 }

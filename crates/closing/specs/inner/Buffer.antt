@@ -5,7 +5,7 @@ use lib.ListN.{length, set}
 use lib.Ieee.{Float}
 use Rattle.lists.specs.Loops.{upTo}
 use Rattle.journal.specs.Row.{rowSize}
-use Rattle.journal.specs.Record.{headWords, readRow, recordLength}
+use Rattle.journal.specs.Record.{firstCell, readRow, recordLength}
 use Rattle.journal.specs.Ranges.{candidateLimit}
 
 -- the first n entries by their numbers, one after the other
@@ -14,7 +14,7 @@ entriesStored n g buffer = upTo n (λ k l. set l k (g k)) buffer
 
 -- the first words of n candidates, a field with a unit and a limit, and room
 pub record FieldsStand (words : List ℕ) (n unit limit : ℕ) (buffer : List ℕ) : Type 0 where
-  pub inside : headWords + 7 * n ≤ length words
+  pub inside : firstCell + 7 * n ≤ length words
   pub some-unit : 0 < unit
   pub some-limit : 0 < limit
   pub room : n ≤ length buffer

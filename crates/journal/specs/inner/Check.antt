@@ -9,7 +9,7 @@ use Rattle.lists.specs.Loops.{everyBelow}
 use Rattle.journal.specs.Lists.{starts}
 use Rattle.journal.specs.Row.{Row, rowSize, scores}
 use Rattle.journal.specs.Ranges.{distanceOk, cellOk}
-use Rattle.journal.specs.Record.{distancesWord, lengthWord, predecessorWord, headWords, cellWords, floatWords, recordLength, recordOf, readCell, readDistance, readRow}
+use Rattle.journal.specs.Record.{distancesWord, lengthWord, predecessorWord, firstCell, cellWords, floatWords, recordLength, recordOf, readCell, readDistance, readRow}
 use Rattle.journal.specs.Journal.{words, rowOk, used, readJournal}
 use Rattle.journal.specs.declared.read.Record.{Record}
 use Rattle.journal.specs.declared.read.Record.the-variants.{Bad, Whole}
@@ -29,9 +29,9 @@ wellRead part read test ws = starts (part (read ws)) ws && test (read ws)
 unfoldable pub bodyReads : ℕ → ℕ → ℕ → ℕ → List ℕ → Bool
 bodyReads place c p n ws =
     eqb (getD ws 1 0) (predecessorWord place)
-    && (everyBelow c (λ k. wellRead cellWords readCell (cellOk p n) (drop (headWords + 7 * k) ws))
-    && (eqb (getD ws (headWords + 7 * c) 0) (distancesWord (c * p))
-    && (everyBelow (c * p) (λ k. wellRead floatWords readDistance distanceOk (drop (headWords + 7 * c + 1 + 2 * k) ws))
+    && (everyBelow c (λ k. wellRead cellWords readCell (cellOk p n) (drop (firstCell + 7 * k) ws))
+    && (eqb (getD ws (firstCell + 7 * c) 0) (distancesWord (c * p))
+    && (everyBelow (c * p) (λ k. wellRead floatWords readDistance distanceOk (drop (firstCell + 7 * c + 1 + 2 * k) ws))
     && eqb (getD ws (recordLength c p - 1) 0) (lengthWord (recordLength c p)))))
 
 -- what the row reader finds: the record of row number n on a predecessor of q candidates, whose record starts at `place`

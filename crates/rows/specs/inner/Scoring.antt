@@ -11,7 +11,7 @@ use Rattle.binary64.specs.Operators.{_⊕_}
 use Rattle.network.specs.Graph.{elementCount}
 use Rattle.transition.specs.Track.{Track}
 use Rattle.journal.specs.Row.{Fix, Row, candidateCount, candidateOf, rowSize, cellOf, scoreOf, beforeOf}
-use Rattle.journal.specs.Record.{headWords, readRow}
+use Rattle.journal.specs.Record.{firstCell, readRow}
 use Rattle.journal.specs.declared.record.Candidate.{Candidate}
 use Rattle.transition.specs.inner.Track.{TrackFits}
 use Rattle.transition.specs.declared.step.Step.{Step}
@@ -25,12 +25,12 @@ use Rattle.rows.specs.declared.offers.Offers.{Offers}
 -- its candidate j, with its words
 pub record CandidateStands (words : List ℕ) (j : ℕ) : Type 0 where
   pub below : j < rowSize (readRow words)
-  pub room : headWords + 7 * j + 7 ≤ length words
+  pub room : firstCell + 7 * j + 7 ≤ length words
 
 -- all its candidates, p of them
 pub record RecordStands (words : List ℕ) (p : ℕ) : Type 0 where
   pub many : rowSize (readRow words) ≡ p
-  pub room : headWords + 7 * p ≤ length words
+  pub room : firstCell + 7 * p ≤ length words
 
 -- and their elements are known in a network of n elements
 pub record RecordKnown (n : ℕ) (words : List ℕ) (p : ℕ) : Type 0 where

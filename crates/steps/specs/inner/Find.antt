@@ -7,7 +7,7 @@ use lib.Dec.{ltb}
 use lib.ListN.{length, drop}
 use Rattle.journal.specs.Lists.{each}
 use Rattle.journal.specs.Row.{Row, rowSize, cellOf}
-use Rattle.journal.specs.Record.{headWords, recordLength, readRow}
+use Rattle.journal.specs.Record.{firstCell, recordLength, readRow}
 use Rattle.journal.specs.Journal.{words, readJournal}
 use Rattle.journal.specs.inner.Check.{latestOf}
 use Rattle.journal.specs.Call.{firstFailed}
@@ -65,7 +65,7 @@ pub record TwoRecords (n : ℕ) (own previous : List ℕ) : Type 0 where
   pub few-before : rowSize (readRow previous) ≤ 16
   pub before : 0 < rowSize (readRow own) → readRow own .before ≡ rowSize (readRow previous)
   pub room : recordLength (rowSize (readRow own)) (readRow own .before) ≤ length own
-  pub room-before : headWords + 7 * rowSize (readRow previous) ≤ length previous
+  pub room-before : firstCell + 7 * rowSize (readRow previous) ≤ length previous
   pub element : (i : ℕ) → i < rowSize (readRow own) → cellOf (readRow own) i .candidate .element < n
   pub element-before : (j : ℕ) → j < rowSize (readRow previous) → cellOf (readRow previous) j .candidate .element < n
 

@@ -4,14 +4,14 @@ use mathlib.Core.Path.{_≡_, refl}
 use Prim.Native.Nat.{_+_, _*_, _-_, _/_, _%_, _≤_}
 use native.Mathlib.Omega.{arith}
 use lib.ListN.{length, getD, length-set}
-use Rattle.journal.specs.Record.{headWords}
+use Rattle.journal.specs.Record.{firstCell}
 use Rattle.closing.specs.inner.Buffer.{entriesStored}
 use Rattle.lists.proofs.Loops.{upTo-none, upTo-turn, upTo-done}
 use Rattle.closing.proofs.buffer.copy_fields.Statement.{statement}
 use Rattle.closing.proofs.buffer.copy_fields.Tie as tie
 
 abbrev Inv-loop : tie.InvT-loop
-Inv-loop words n unit limit buffer₀ k₀ buffer k = (k ≤ n) × (length buffer ≡ length buffer₀) × (buffer ≡ entriesStored k (λ j. getD words (headWords + 7 * j) 0 / unit % limit) buffer₀)
+Inv-loop words n unit limit buffer₀ k₀ buffer k = (k ≤ n) × (length buffer ≡ length buffer₀) × (buffer ≡ entriesStored k (λ j. getD words (firstCell + 7 * j) 0 / unit % limit) buffer₀)
 
 abbrev μ-loop : tie.MeasureT-loop
 μ-loop words n unit limit buffer₀ k₀ buffer k = n - k

@@ -4,7 +4,7 @@ use Prim.Native.Nat.{_+_, _%_, _≤_}
 use native.Mathlib.Omega.{arith}
 use lib.ListN.{getD}
 use borrow.Author.Needs.{needs}
-use Rattle.journal.specs.Record.{headWords}
+use Rattle.journal.specs.Record.{firstCell}
 use Rattle.closing.specs.Row.{RowBuffers, rowBuffersOf, candidateRoom, rowAnswer, filled}
 use Rattle.closing.proofs.Rows.{same-room, Rooms, rooms, some-words, fields-stand, floats-stand, distances-stand, row-longer, distances-longer, row-answer, row-filled}
 use Rattle.closing.proofs.row.copy_row.Statement.{statement}
@@ -66,7 +66,7 @@ add-copy-floats : tie.Need-add-copy-floats
 add-copy-floats c = search needs
 
 copy-floats-requires : tie.Need-copy-floats-requires
-copy-floats-requires c κs = floats-stand (c .before .before .before .before .before .before .before .before .before .before .before .before .before .before .before .before .before .before .before .before .before .before .before .args .words .now) (c .before .before .before .before .before .before .before .before .before .before .before .before .before .before .before .before .before .before .before .before .before .before .before .pre) (headWords + 1) _ (omega arith) (each (c .before .before .before .before .before .before) .intrinsics)
+copy-floats-requires c κs = floats-stand (c .before .before .before .before .before .before .before .before .before .before .before .before .before .before .before .before .before .before .before .before .before .before .before .args .words .now) (c .before .before .before .before .before .before .before .before .before .before .before .before .before .before .before .before .before .before .before .before .before .before .before .pre) (firstCell + 1) _ (omega arith) (each (c .before .before .before .before .before .before) .intrinsics)
 
 copy-fields-requires-2 : tie.Need-copy-fields-requires-2
 copy-fields-requires-2 c κs = fields-stand (c .before .before .before .before .before .before .before .before .before .before .before .before .before .before .before .before .before .before .before .before .before .before .before .before .before .before .before .args .words .now) (c .before .before .before .before .before .before .before .before .before .before .before .before .before .before .before .before .before .before .before .before .before .before .before .before .before .before .before .pre) 1024 2 _ (omega arith) (omega arith) (each (c .before .before .before .before .before .before .before .before .before .before) .near)
@@ -75,7 +75,7 @@ add-copy-floats-2 : tie.Need-add-copy-floats-2
 add-copy-floats-2 c = search needs
 
 copy-floats-requires-2 : tie.Need-copy-floats-requires-2
-copy-floats-requires-2 c κs = floats-stand (c .before .before .before .before .before .before .before .before .before .before .before .before .before .before .before .before .before .before .before .before .before .before .before .before .before .before .before .before .before .before .before .args .words .now) (c .before .before .before .before .before .before .before .before .before .before .before .before .before .before .before .before .before .before .before .before .before .before .before .before .before .before .before .before .before .before .before .pre) (headWords + 3) _ (omega arith) (each (c .before .before .before .before .before .before .before .before .before .before .before .before .before .before) .rawLogs)
+copy-floats-requires-2 c κs = floats-stand (c .before .before .before .before .before .before .before .before .before .before .before .before .before .before .before .before .before .before .before .before .before .before .before .before .before .before .before .before .before .before .before .args .words .now) (c .before .before .before .before .before .before .before .before .before .before .before .before .before .before .before .before .before .before .before .before .before .before .before .before .before .before .before .before .before .before .before .pre) (firstCell + 3) _ (omega arith) (each (c .before .before .before .before .before .before .before .before .before .before .before .before .before .before) .rawLogs)
 
 copy-fields-requires-3 : tie.Need-copy-fields-requires-3
 copy-fields-requires-3 c κs = fields-stand (c .before .before .before .before .before .before .before .before .before .before .before .before .before .before .before .before .before .before .before .before .before .before .before .before .before .before .before .before .before .before .before .before .before .before .before .args .words .now) (c .before .before .before .before .before .before .before .before .before .before .before .before .before .before .before .before .before .before .before .before .before .before .before .before .before .before .before .before .before .before .before .before .before .before .before .pre) 2048 32 _ (omega arith) (omega arith) (each (c .before .before .before .before .before .before .before .before .before .before .before .before .before .before .before .before .before .before) .parents)
@@ -84,7 +84,7 @@ add-copy-floats-3 : tie.Need-add-copy-floats-3
 add-copy-floats-3 c = search needs
 
 copy-floats-requires-3 : tie.Need-copy-floats-requires-3
-copy-floats-requires-3 c κs = floats-stand (c .before .before .before .before .before .before .before .before .before .before .before .before .before .before .before .before .before .before .before .before .before .before .before .before .before .before .before .before .before .before .before .before .before .before .before .before .before .before .before .args .words .now) (c .before .before .before .before .before .before .before .before .before .before .before .before .before .before .before .before .before .before .before .before .before .before .before .before .before .before .before .before .before .before .before .before .before .before .before .before .before .before .before .pre) (headWords + 5) _ (omega arith) (each (c .before .before .before .before .before .before .before .before .before .before .before .before .before .before .before .before .before .before .before .before .before .before) .scores)
+copy-floats-requires-3 c κs = floats-stand (c .before .before .before .before .before .before .before .before .before .before .before .before .before .before .before .before .before .before .before .before .before .before .before .before .before .before .before .before .before .before .before .before .before .before .before .before .before .before .before .args .words .now) (c .before .before .before .before .before .before .before .before .before .before .before .before .before .before .before .before .before .before .before .before .before .before .before .before .before .before .before .before .before .before .before .before .before .before .before .before .before .before .before .pre) (firstCell + 5) _ (omega arith) (each (c .before .before .before .before .before .before .before .before .before .before .before .before .before .before .before .before .before .before .before .before .before .before) .scores)
 
 mul-copy-floats : tie.Need-mul-copy-floats
 mul-copy-floats c = search needs

@@ -8,13 +8,13 @@ use lib.ListN.{drop}
 use Rattle.lists.proofs.Loops.{every-none, every-turn, every-done, every-stop}
 use Rattle.lists.specs.Loops.{everyBelow}
 use Rattle.journal.specs.inner.Check.{wellRead}
-use Rattle.journal.specs.Record.{headWords, cellWords, readCell}
+use Rattle.journal.specs.Record.{firstCell, cellWords, readCell}
 use Rattle.journal.specs.Ranges.{cellOk}
 use Rattle.journal.proofs.read.cells_read.Statement.{statement}
 use Rattle.journal.proofs.read.cells_read.Tie as tie
 
 abbrev Inv-loop : tie.InvT-loop
-Inv-loop words c p row k₀ k = (k ≤ c) × (everyBelow k (λ j. wellRead cellWords readCell (cellOk p row) (drop (headWords + 7 * j) words)) ≡ true)
+Inv-loop words c p row k₀ k = (k ≤ c) × (everyBelow k (λ j. wellRead cellWords readCell (cellOk p row) (drop (firstCell + 7 * j) words)) ≡ true)
 
 abbrev μ-loop : tie.MeasureT-loop
 μ-loop words c p row k₀ k = c - k

@@ -4,7 +4,7 @@ use native.Mathlib.Omega.{arith}
 use mathlib.Core.Path.{_≡_, refl, _∙_}
 use lib.Seq.{sets, take-length}
 use lib.ListN.{length, take}
-use Rattle.journal.specs.Record.{headWords, cellWords}
+use Rattle.journal.specs.Record.{firstCell, cellWords}
 use Rattle.journal.specs.inner.Row.{cellsOf}
 use Rattle.journal.specs.inner.Fix.{candidatesIn}
 use Rattle.journal.specs.Lists.{flat}
@@ -18,7 +18,7 @@ Inv-loop words₀ fix parents scores k₀ k-end words k =
     (k-end ≡ fix .count)
     × (k ≤ k-end)
     × (length words ≡ length words₀)
-    × (words ≡ sets words₀ headWords (flat cellWords (take k (cellsOf (candidatesIn fix) parents scores))))
+    × (words ≡ sets words₀ firstCell (flat cellWords (take k (cellsOf (candidatesIn fix) parents scores))))
 
 abbrev μ-loop : tie.MeasureT-loop
 μ-loop words₀ fix parents scores k₀ k-end words k = k-end - k
