@@ -10,7 +10,7 @@ use lib.ListN.{length, getD, drop, set, length-append, length-drop}
 use lib.Seq.{drop-cons, getD-at}
 use Rattle.journal.specs.Lists.{flat}
 use Rattle.journal.specs.Row.{Row, rowSize}
-use Rattle.journal.specs.Record.{headWord, lengthWord, predecessorWord, usedWord, cellWords, distancesWords, recordLength, recordOf}
+use Rattle.journal.specs.Record.{lengthWord, usedWord, headOf, cellWords, distancesWords, recordLength, recordOf}
 use Rattle.journal.specs.Journal.{words, predecessorPlace, recordOn, journal, used, readJournal}
 use Rattle.journal.specs.WellFormed.{RowFits, Obey, WellFormed as Formed}
 use Rattle.journal.specs.inner.Check.{latestOf, surveyOf, survey}
@@ -26,11 +26,11 @@ use Rattle.journal.proofs.WellFormed.{well-formed, used-well}
 -- ---- the last word of a record
 
 front : ℕ → Row → List ℕ
-front place r = headWord (rowSize r) (r .before) ∷ predecessorWord place ∷ (flat cellWords (r .cells) ++ distancesWords (r .distances))
+front place r = headOf place r ++ (flat cellWords (r .cells) ++ distancesWords (r .distances))
 
 record-ends : (place : ℕ) (r : Row) → recordOf place r ≡ front place r ++ (lengthWord (recordLength (rowSize r) (r .before)) ∷ [])
 unfolding recordOf front
-record-ends place r = ap (λ (l : List ℕ). headWord (rowSize r) (r .before) ∷ predecessorWord place ∷ l) (sym (append-assoc (flat cellWords (r .cells)) (distancesWords (r .distances)) (lengthWord (recordLength (rowSize r) (r .before)) ∷ [])))
+record-ends place r = ap (λ (l : List ℕ). headOf place r ++ l) (sym (append-assoc (flat cellWords (r .cells)) (distancesWords (r .distances)) (lengthWord (recordLength (rowSize r) (r .before)) ∷ [])))
 
 -- stands before what follows the record
 last-at : (place : ℕ) (r : Row) (w : ℕ) (xs ys : List ℕ) → RowFits r

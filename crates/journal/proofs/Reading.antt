@@ -10,15 +10,15 @@ use lib.Dec.{T, leb, eqb, le→leb}
 use lib.ListN.{length, getD, drop, length-append}
 use lib.Seq.{drop-at, take-at, drop-append-seam}
 use lib.Ieee.{Float, binary64, toBits, ofBits}
-use lib.Ieee.Bits.{ofBits-toBits, toBits-lt}
+use lib.Ieee.Bits.{ofBits-toBits}
 use lib.Ieee.Fits.{and-i, eq→eqb}
 use Rattle.journal.specs.Lists.{flat, starts}
 use Rattle.journal.specs.Row.{Cell, Row, rowSize, scores, predecessor, sizeOf, beforeOf}
 use Rattle.journal.specs.Ranges.{candidateLimit, rowLimit}
-use Rattle.journal.specs.Record.{headWord, candidateWord, distancesWord, lengthWord, predecessorWord, usedWord, highHalf, lowHalf, cellWords, floatWords, recordLength, recordOf, readFloat, readCell, readDistance, readEach, headCount, headBefore, readRow}
+use Rattle.journal.specs.Record.{headWord, candidateWord, distancesWord, lengthWord, usedWord, highHalf, lowHalf, headOf, cellWords, floatWords, recordLength, recordOf, readFloat, readCell, readDistance, readEach, headCount, headBefore, readRow}
 use Rattle.journal.specs.Journal.{words, predecessorPlace, recordOn, journal, rowOk, recordOk, readRows, used, usedWords, readJournal}
 use Rattle.journal.specs.WellFormed.{Each, Fitting, CellFits, RowFits, Obey}
-use Rattle.journal.proofs.Lists.{cond-true, some-none, each-append, length-flat, starts-self}
+use Rattle.journal.proofs.Lists.{cond-true, some-none, length-flat, starts-self}
 
 -- ---- a field
 
@@ -100,7 +100,7 @@ module _ (place : ℕ) (r : Row) (h : RowFits r) (ws : List ℕ) where
   unfolding end
   past = distancesWord (length (r .distances)) ∷ (flat floatWords (r .distances) ++ (end ++ ws))
 
-  body-is : recordOf place r ++ ws ≡ headWord (rowSize r) (r .before) ∷ predecessorWord place ∷ (flat cellWords (r .cells) ++ past)
+  body-is : recordOf place r ++ ws ≡ headOf place r ++ (flat cellWords (r .cells) ++ past)
   unfolding recordOf past end
   body-is = rw (
     append-assoc (flat cellWords (r .cells)) (distancesWord (length (r .distances)) ∷ (flat floatWords (r .distances) ++ end)) ws,
@@ -110,7 +110,7 @@ module _ (place : ℕ) (r : Row) (h : RowFits r) (ws : List ℕ) where
   pub read-row : readRow (recordOf place r ++ ws) ≡ r
   read-row =
       ap (λ (l : List ℕ). readRow l) body-is
-      ∙ parts (headWord (rowSize r) (r .before)) (predecessorWord place) (flat cellWords (r .cells) ++ past) (rowSize r) (r .before) (word-count (rowSize r) (r .before) (h .few) (h .few-before)) (word-before (rowSize r) (r .before) (h .few) (h .few-before))
+      ∙ parts (headWord (rowSize r) (r .before)) _ (flat cellWords (r .cells) ++ past) (rowSize r) (r .before) (word-count (rowSize r) (r .before) (h .few) (h .few-before)) (word-before (rowSize r) (r .before) (h .few) (h .few-before))
       ∙ rw (read-cells (r .cells) past (h .cells), drop-at (flat cellWords (r .cells)) past (7 * rowSize r) (length-cells (r .cells)), ← h .number)
       (ap (λ (l : List Float). back l) (unfold past in read-floats (r .distances) (end ++ ws) (h .distances)))
     where
@@ -235,41 +235,3 @@ module _ (rs : List Row) (rest : List ℕ) (h : Obey rs) (l : length rs ≤ rowL
         where
           long : used s ≤ length s
           long = omega (arith, used-journal, length-append (journal rs) rest, length-journal rs)
-
--- ---- every word has 32 bits
-
-abbrev pub Word : ℕ → Type 0
-Word w = w < 4294967296
-
-float-words : (x : Float) → Fitting x → Word (highHalf x) × Word (lowHalf x)
-float-words x h = (omega (arith, toBits-lt binary64 x h), omega arith)
-
-cells-words : (cs : List Cell) → Each CellFits cs → Each Word (flat cellWords cs)
-cells-words [] h = tt
-cells-words (c ∷ cs) h =
-    let i = float-words (c .candidate .intrinsic) (h .0 .intrinsic) in
-    let l = float-words (c .candidate .«raw_log») (h .0 .rawLog) in
-    let s = float-words (c .score) (h .0 .score) in
-    let w : Word (candidateWord (c .candidate .element) (c .candidate .near) (c .parent)) = omega (arith, h .0 .element, h .0 .near, h .0 .parent) in
-    (w, (i .0, (i .1, (l .0, (l .1, (s .0, (s .1, cells-words cs (h .1))))))))
-
-floats-words : (xs : List Float) → Each Fitting xs → Each Word (flat floatWords xs)
-floats-words [] h = tt
-floats-words (x ∷ xs) h = (float-words x (h .0) .0, (float-words x (h .0) .1, floats-words xs (h .1)))
-
-pub record-words : (place : ℕ) (r : Row) → place < 268435456 → RowFits r → Each Word (recordOf place r)
-unfolding recordOf recordLength
-record-words place r l h =
-    let product = mul-le-mul (h .few) (h .few-before) in
-    let head : Word (headWord (rowSize r) (r .before)) = omega (arith, h .few, h .few-before) in
-    let predecessor : Word (predecessorWord place) = omega arith in
-    let middle : Word (distancesWord (length (r .distances))) = omega (arith, h .number, product) in
-    let last : Word (lengthWord (recordLength (rowSize r) (r .before))) = omega (arith, h .few, product) in (
-      head,
-      (
-        predecessor,
-        each-append Word (flat cellWords (r .cells)) (distancesWord (length (r .distances)) ∷ (flat floatWords (r .distances) ++ (lengthWord (recordLength (rowSize r) (r .before)) ∷ [])))
-            (cells-words (r .cells) (h .cells))
-            (middle, each-append Word (flat floatWords (r .distances)) (lengthWord (recordLength (rowSize r) (r .before)) ∷ []) (floats-words (r .distances) (h .distances)) (last, tt)),
-      ),
-    )

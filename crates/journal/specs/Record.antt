@@ -44,7 +44,11 @@ floatWords x = highHalf x ∷ lowHalf x ∷ []
 
 -- ---- a row's record
 
--- where its first candidate's words start, past the head word and the predecessor's
+-- its head: the counts, and the predecessor's place
+abbrev pub headOf : ℕ → Row → List ℕ
+headOf place r = headWord (rowSize r) (r .before) ∷ predecessorWord place ∷ []
+
+-- where its first candidate's words start, past the head
 abbrev pub firstCell : ℕ
 firstCell = 2
 
@@ -65,8 +69,7 @@ recordLength c p = 7 * c + 2 * (c * p) + 4
 -- of a row whose predecessor's record starts at `place`
 unfoldable pub recordOf : ℕ → Row → List ℕ
 recordOf place r =
-    headWord (rowSize r) (r .before) ∷ predecessorWord place
-    ∷ (flat cellWords (r .cells) ++ (distancesWords (r .distances) ++ (lengthWord (recordLength (rowSize r) (r .before)) ∷ [])))
+    headOf place r ++ (flat cellWords (r .cells) ++ (distancesWords (r .distances) ++ (lengthWord (recordLength (rowSize r) (r .before)) ∷ [])))
 
 -- ---- reading back
 

@@ -22,7 +22,7 @@ pub struct Candidate {
     pub raw_log: f64,
 }
 
-// Where the first candidate's words start in a record, past its head word and its predecessor's.
+// Where the first candidate's words start in a record, past its head.
 pub const FIRST_CELL: usize = 2;
 
 // How many distances c candidates have with p predecessor candidates.
