@@ -80,6 +80,10 @@ pub length-record : (place : ℕ) (r : Row) → length (r .distances) ≡ rowSiz
 unfolding recordOf recordLength
 length-record place r h = simp length-append (omega (arith, length-cells (r .cells), length-floats (r .distances)))
 
+pub record-least : (place : ℕ) (r : Row) → 4 ≤ length (recordOf place r)
+unfolding recordOf
+record-least place r = simp length-append (omega arith)
+
 pub record-small : (place : ℕ) (r : Row) → RowFits r → length (recordOf place r) ≤ 628
 unfolding recordLength
 record-small place r h = omega (arith, length-record place r (h .number), mul-le-mul (h .few) (h .few-before))
@@ -149,14 +153,10 @@ read-at n rs r (w ∷ ws) l e ok =
     look : Row → Option (List Row)
     look x = cond (recordOk rs x (w ∷ ws)) (readRows n (x ∷ rs) (drop (length (recordOn rs x)) (w ∷ ws))) none
 
-record-some : (place : ℕ) (r : Row) (ws : List ℕ) → 0 < length (recordOf place r ++ ws)
-unfolding recordOf
-record-some place r ws = omega arith
-
 read-one : (n : ℕ) (rs : List Row) (r : Row) (ws : List ℕ) → RowFits r → T (rowOk (sizeOf (predecessor rs)) (length rs) r) → readRows (suc n) rs (recordOn rs r ++ ws) ≡ readRows n (r ∷ rs) ws
 read-one n rs r ws h ok =
     let own = recordOn rs r in
-    read-at n rs r (own ++ ws) (record-some (predecessorPlace rs) r ws) (read-row (predecessorPlace rs) r h ws)
+    read-at n rs r (own ++ ws) (simp length-append (omega (arith, record-least (predecessorPlace rs) r))) (read-row (predecessorPlace rs) r h ws)
     (and-i (starts own (own ++ ws)) (rowOk (sizeOf (predecessor rs)) (length rs) r) (starts-self own ws) ok)
     ∙ ap (λ (l : List ℕ). readRows n (r ∷ rs) l) (drop-append-seam own ws)
 

@@ -14,7 +14,7 @@ use Rattle.binary64.proofs.Order.{taken, same-test}
 use Rattle.journal.specs.Lists.{starts}
 use Rattle.journal.specs.Row.{Row, rowSize, scores, predecessor, sizeOf}
 use Rattle.journal.specs.Ranges.{rowLimit}
-use Rattle.journal.specs.Record.{usedWord, recordOf, readRow}
+use Rattle.journal.specs.Record.{usedWord, readRow}
 use Rattle.journal.specs.Journal.{words, predecessorPlace, recordOn, rowOk, recordOk, readRows, used, usedWords, readJournal}
 use Rattle.journal.specs.inner.Check.{wellRead, recordAt, latestOf, candidatesOf, placeOf, surveyOf, survey}
 use Rattle.journal.specs.declared.read.Record.the-variants.{Bad, Whole}
@@ -22,42 +22,38 @@ use Rattle.journal.specs.declared.check.Predecessor.{Predecessor}
 use Rattle.journal.specs.declared.check.Predecessor.the-variants.{Nothing, At}
 use Rattle.journal.specs.declared.check.Survey.the-variants.{NotWellFormed, WellFormed}
 use Rattle.journal.proofs.Lists.{starts-split}
-use Rattle.journal.proofs.Reading.{read-at, read-end}
+use Rattle.journal.proofs.Reading.{record-least, read-at, read-end}
 use Rattle.journal.proofs.Stores.{take-rest}
 
 -- ---- the predecessor
 
--- its candidates
+-- its candidates, and its place
+latest-both : (rs : List Row) → (candidatesOf (latestOf rs) ≡ sizeOf (predecessor rs)) × (placeOf (latestOf rs) ≡ predecessorPlace rs)
+unfolding latestOf predecessor predecessorPlace
+latest-both [] = (refl, refl)
+latest-both (r ∷ rs) = go (scores r) (latest-both rs)
+  where
+    new : Predecessor
+    new = At (suc (length (words rs))) (length rs) (rowSize r)
+
+    go : (b : Bool) → (candidatesOf (latestOf rs) ≡ sizeOf (predecessor rs)) × (placeOf (latestOf rs) ≡ predecessorPlace rs)
+        → (candidatesOf (cond b new (latestOf rs)) ≡ sizeOf (cond b (some r) (predecessor rs))) × (placeOf (cond b new (latestOf rs)) ≡ cond b (suc (length (words rs))) (predecessorPlace rs))
+    go true ih = (refl, refl)
+    go false ih = ih
+
 pub latest-size : (rs : List Row) → candidatesOf (latestOf rs) ≡ sizeOf (predecessor rs)
-unfolding latestOf predecessor
-latest-size [] = refl
-latest-size (r ∷ rs) = go (scores r) (latest-size rs)
-  where
-    go : (b : Bool) → candidatesOf (latestOf rs) ≡ sizeOf (predecessor rs)
-        → candidatesOf (cond b (At (suc (length (words rs))) (length rs) (rowSize r)) (latestOf rs)) ≡ sizeOf (cond b (some r) (predecessor rs))
-    go true ih = refl
-    go false ih = ih
+latest-size rs = latest-both rs .0
 
--- its place, which is among the words
 pub latest-place : (rs : List Row) → placeOf (latestOf rs) ≡ predecessorPlace rs
-unfolding latestOf predecessorPlace
-latest-place [] = refl
-latest-place (r ∷ rs) = go (scores r) (latest-place rs)
-  where
-    go : (b : Bool) → placeOf (latestOf rs) ≡ predecessorPlace rs
-        → placeOf (cond b (At (suc (length (words rs))) (length rs) (rowSize r)) (latestOf rs)) ≡ cond b (suc (length (words rs))) (predecessorPlace rs)
-    go true ih = refl
-    go false ih = ih
+latest-place rs = latest-both rs .1
 
+-- the place is among the words
 pub place-inside : (rs : List Row) → predecessorPlace rs ≤ length (words rs)
 unfolding words predecessorPlace
 place-inside [] = omega arith
-place-inside (r ∷ rs) = simp length-append (go (scores r) (some-words (predecessorPlace rs) r) (place-inside rs))
+place-inside (r ∷ rs) = simp length-append (go (scores r) (record-least (predecessorPlace rs) r) (place-inside rs))
   where
-    some-words : (place : ℕ) (r : Row) → 0 < length (recordOf place r)
-    some-words place r = unfold recordOf in omega arith
-
-    go : (b : Bool) → 0 < length (recordOn rs r) → predecessorPlace rs ≤ length (words rs) → cond b (suc (length (words rs))) (predecessorPlace rs) ≤ length (words rs) + length (recordOn rs r)
+    go : (b : Bool) → 4 ≤ length (recordOn rs r) → predecessorPlace rs ≤ length (words rs) → cond b (suc (length (words rs))) (predecessorPlace rs) ≤ length (words rs) + length (recordOn rs r)
     go true l ih = omega arith
     go false l ih = omega arith
 
@@ -124,10 +120,7 @@ module _ (rs : List Row) (ws : List ℕ) where
   fits : T (recordOk rs (readRow ws) ws) → (4 ≤ length (recordOn rs (readRow ws))) × (length (recordOn rs (readRow ws)) ≤ length ws)
   fits t =
       let split = starts-split (recordOn rs (readRow ws)) ws (and-l (starts (recordOn rs (readRow ws)) ws) (rowOk (sizeOf (predecessor rs)) (length rs) (readRow ws)) t) in
-      (four (predecessorPlace rs) (readRow ws), omega (arith, simp length-append at (ap length split)))
-    where
-      four : (place : ℕ) (r : Row) → 4 ≤ length (recordOf place r)
-      four place r = unfold recordOf in simp length-append (omega arith)
+      (record-least (predecessorPlace rs) (readRow ws), omega (arith, simp length-append at (ap length split)))
 
 -- ---- the walk
 
