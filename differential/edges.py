@@ -1,5 +1,5 @@
 """Cases in which each call refuses with each number that it has, and their neighbours that it accepts, at both edges of each range; and the edges at
-which a step is possible or a bridge is made."""
+which a side pair or a step is possible or a bridge is made."""
 
 import math
 import struct
@@ -324,5 +324,71 @@ def thresholds():
         yield "journal 400\n" + feed(candidate(0, 1.0)) + feed(candidate(2, 0.0), distances=(0.0,)) + "segments\n"
 
 
+# ---- the lowest score of a possible side pair (document 02, K2)
+
+BELOW_LOWEST = "\n# a pair below -745.0 is impossible: "
+
+
+def around(value):
+    return below(value), value, above(value)
+
+
+def turning(turn, flag=1):
+    """Two joined elements of 0 m, whose four side pairs have a route of 0 m and this turn: the distance is the gap, and all four score alike."""
+    return network(((0.0, 0.0, 0.0, 0.0, 0.0, 1), (0.0, turn, turn, turn, turn, flag)), RELATIONS[:1])
+
+
+def step(distance, first=candidate(0), second=candidate(1)):
+    return "journal 400\n" + feed(first) + feed(second, distances=(distance,)) + "row 1\nsteps 1\n"
+
+
+def lowest_terms():
+    """Side pairs of which one term alone is at -745.0 or next to it, the other 0."""
+    yield BELOW_LOWEST + "the distance alone\n" + turning(0.0)
+    for beta in (1.0, 0.001, 3.0, 20000.0):
+        yield line("settings", beta, 30.0) + "".join(step(gap) for gap in around(745.0 * beta))
+    yield BELOW_LOWEST + "a route longer than the distance\n" + line("settings", 1.0, 30.0)
+    for length in around(745.0):
+        yield network((element(0, length), element(0, 0.0)), RELATIONS[:1]) + step(0.0, candidate(0, 0.0))
+    for beta, what in ((0.0, "the turn alone, beta 0"), (1.0, "the turn alone")):
+        yield BELOW_LOWEST + what + "\n"
+        for scale in (0.125, 0.001):
+            yield line("settings", beta, scale) + "".join(turning(turn) + step(0.0) for turn in around(745.0 * scale))
+        yield turning(180.0) + step(0.0) + turning(180.0, flag=0) + step(0.0)
+
+
+def lowest_sums():
+    """Side pairs of two terms whose sum is at -745.0 or next to it. A sum halfway to the binary64 next to it rounds to -745.0, which is even."""
+    half, halfway = 372.5, (above(745.0) - 745.0) / 2
+    small = 1e-14, halfway, above(halfway), 1.0
+    yield BELOW_LOWEST + "two halves; their sum is next to -745.0, rounds to it, is it, rounds to it, is next to it\n" + turning(93.125) + line("settings", 1.0, 0.25)
+    yield "".join(step(gap) for gap in (below(below(half)), *around(half), above(above(half))))
+    yield BELOW_LOWEST + "neither term is, their sum is\n" + step(400.0) + step(745.0)
+    yield BELOW_LOWEST + "the first term at -745.0, and a second that is rounded off or not\n" + line("settings", 1.0, 1.0)
+    yield "".join(turning(turn) + step(745.0) for turn in small)
+    yield BELOW_LOWEST + "the second term at -745.0, and such a first\n" + turning(93.125) + line("settings", 1.0, 0.125)
+    yield "".join(step(gap) for gap in small)
+    yield BELOW_LOWEST + "not a step on the same element\n" + line("settings", 0.001, 0.001) + step(20100000.0, second=candidate(0))
+
+
+def lowest_rows():
+    """Steps, rows and paths that depend on whether a side pair is possible."""
+    far, asked = above(745.0), "row 1\nsteps 1\nclose\n"
+    yield BELOW_LOWEST + "some of a step's four; at 2,000 m all\n" + line("settings", 1.0, 30.0) + network((element(0, 1000.0),) * 2, RELATIONS[:1])
+    for distance in (1000.0, 1745.0, above(1745.0), 2000.0, below(2255.0), 2255.0, 3000.0):
+        yield step(distance, candidate(0, 0.0), candidate(1, 0.0))
+    yield BELOW_LOWEST + "all steps of a row, which breaks; then all but one\n" + network((element(0, 0.0),) * 3)
+    yield "journal 400\n" + feed(candidate(0), candidate(1)) + feed(candidate(2), candidate(2, 0.25), distances=(far, 746.0, 1000.0, 20100000.0)) + asked
+    yield feed(candidate(0), distances=(745.0, far)) + "row 2\nsteps 2\nclose\n"
+    yield BELOW_LOWEST + "all steps to one candidate, which stays at minus infinity; then to both, and the row breaks\n"
+    for distances in ((745.0, far), (far, far)):
+        yield "journal 400\n" + feed(candidate(0)) + feed(candidate(1), candidate(2), distances=distances) + asked
+        yield feed(candidate(2), distances=(0.0, 0.0)) + "row 2\nsteps 2\nclose\nsegments\n"
+    yield BELOW_LOWEST + "the step of the best path, which then takes another\n"
+    for distance in (745.0, far):
+        yield "journal 400\n" + feed(candidate(0, raw_log=0.0), candidate(2, raw_log=-745.0)) + feed(candidate(1), distances=(distance, 2.0)) + asked
+
+
 def cases():
-    return "".join(part for kind in (networks, limits, settings, journals, predecessors, fixes, rows, lists, thresholds) for part in kind())
+    kinds = networks, limits, settings, journals, predecessors, fixes, rows, lists, thresholds, lowest_terms, lowest_sums, lowest_rows
+    return "".join(part for kind in kinds for part in kind())

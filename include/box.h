@@ -61,6 +61,7 @@ enum box_status {
 #define BOX_MAX_ROWS 65535
 #define BOX_MAX_STATES 4096          /* of a route */
 #define BOX_MAX_STEPS 256            /* into a row, and its distances */
+#define BOX_MIN_STEP (-745.0)        /* up to 0; a pair of sides with a lower score is impossible */
 #define BOX_NO_PARENT 31
 #define BOX_DECISION_WORDS 6
 
@@ -162,7 +163,7 @@ uint32_t box_read_row(const uint32_t *journal, size_t journal_words, uint32_t ro
     double *distances, size_t distance_room, size_t *candidates, size_t *predecessor_candidates);
 
 /* The possible steps into a row: *count entries of predecessor row, its candidate, the row, its candidate (outer) and
-   the step's score. Refuses with 1 to 7, 9, 13, 15. */
+   the step's score, BOX_MIN_STEP to 0. Refuses with 1 to 7, 9, 13, 15. */
 uint32_t box_list_steps(BOX_NETWORK_PARAMETERS, double beta, double scale, const uint32_t *journal,
     size_t journal_words, uint32_t row, uint32_t *predecessor_rows, size_t predecessor_row_room,
     uint32_t *predecessor_candidates, size_t predecessor_candidate_room, uint32_t *rows, size_t row_room,

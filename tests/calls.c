@@ -214,6 +214,13 @@ static void row_limit(void) {
         0), BOX_DONE);
 }
 
+/* How many steps lead to element 1 from a fix on element 0 that is so far away; of the four routes the longest is 225 m. */
+static uint32_t steps_over(double apart) {
+    start(), beta = 1;
+    feed(1, 0), elements[0] = 1, distances[0] = apart, feed(1, 1);
+    return list_steps(1, 1) == BOX_DONE ? (uint32_t)lent.count : 2;
+}
+
 static void limits(void) {
     LIMIT("elements", network.elements, BOX_MAX_ELEMENTS, BOX_MAX_ELEMENTS + 1, check(), BOX_REFUSED_COUNTS);
     LIMIT("relations", network.relations, BOX_MAX_RELATIONS, BOX_MAX_RELATIONS + 1, check(), BOX_REFUSED_COUNTS);
@@ -242,6 +249,8 @@ static void limits(void) {
     expect("a word too few", feed_into(BOX_RECORD_WORDS(1, 0) + BOX_RECORD_WORDS(2, 1), 2, 2), BOX_REFUSED_ROOM);
     expect("exact room", feed_into(1 + BOX_RECORD_WORDS(1, 0) + BOX_RECORD_WORDS(2, 1), 2, 2), BOX_DONE);
     row_limit();
+    expect("the lowest step", steps_over(225 - BOX_MIN_STEP) == 1 && lent.floats[0][0] == BOX_MIN_STEP, 1);
+    expect("a step below it", steps_over(nextafter(225 - BOX_MIN_STEP, INFINITY)), 0);
 }
 
 /* ---- empty */

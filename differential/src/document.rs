@@ -1,5 +1,5 @@
-//! Document 01's decoding: the step score, rows, closing and listing steps. With routes and segments it is a second reading of the
-//! document, written without the original.
+//! Document 01's decoding: the step score with document 02's K2, rows, closing and listing steps. With routes and segments it is a second
+//! reading of the documents, written without the original.
 
 use crate::journal::{predecessor, Cell, Row};
 use crate::language::{Candidate, Element, Fix, Network, Segment, Settings, Side};
@@ -9,6 +9,9 @@ use crate::session::{Core, Decision, Path, Step, Unasked};
 
 const FLOOR: f64 = -23.025850929940457;
 const PENALTY: f64 = -23.0;
+
+/// The lowest score of a possible side pair (document 02, K2).
+pub const LOWEST_POSSIBLE: f64 = -745.0;
 
 pub struct Document {
     pub routes: Routes,
@@ -32,7 +35,7 @@ impl Document {
         share * self.routes.length(candidate.element)
     }
 
-    fn turn_term(&self, scale: f64, from: u32, from_side: u32, to: u32, to_side: u32) -> f64 {
+    pub fn turn_term(&self, scale: f64, from: u32, from_side: u32, to: u32, to_side: u32) -> f64 {
         let (from, to) = (&self.elements[from as usize], &self.elements[to as usize]);
         if from.flag == 0 || to.flag == 0 {
             return 0.0;
@@ -52,7 +55,8 @@ impl Document {
         } else {
             return None;
         };
-        Some(first_term + self.turn_term(settings.scale, from.element, sides.0, to.element, sides.1))
+        let score = first_term + self.turn_term(settings.scale, from.element, sides.0, to.element, sides.1);
+        (score >= LOWEST_POSSIBLE).then_some(score)
     }
 
     /// The step score; none for an impossible step.

@@ -1,6 +1,6 @@
 //! Makes drives on a network, questions about routes, and lists to collapse, as case text.
 
-use crate::document::Document;
+use crate::document::{Document, LOWEST_POSSIBLE};
 use crate::journal::{place, predecessor, tag, Row};
 use crate::language::{Candidate, Fix, Network, Segment, Settings, Words};
 use crate::networks::{self, float};
@@ -38,6 +38,7 @@ struct Habits {
     empty: u32,
     impossible: u32,
     whole: bool,
+    lowest: u32,
     strikes: u32,
     faults: u32,
     shorts: u32,
@@ -52,6 +53,7 @@ fn habits(random: &mut Random) -> Habits {
         empty: random.pick(&[0, 0, 10, 30]),
         impossible: random.pick(&[0, 0, 20, 60]),
         whole: random.chance(50),
+        lowest: random.pick(&[0, 0, 0, 10, 60]),
         strikes: random.pick(&[0, 0, 10, 30]),
         faults: random.pick(&[0, 0, 0, 0, 10]),
         shorts: if random.chance(5) { 10 } else { 0 },
@@ -59,7 +61,25 @@ fn habits(random: &mut Random) -> Habits {
     }
 }
 
-fn settings(random: &mut Random) -> Settings {
+/// A binary64 of at least 0, or one next to it.
+fn neighbour(random: &mut Random, value: f64) -> f64 {
+    let bits = value.to_bits();
+    f64::from_bits(random.pick(&[bits, bits, bits + 1, bits.saturating_sub(1)]))
+}
+
+/// A scale at which a turn between two elements scores about the lowest possible score by itself.
+fn lowest_scale(random: &mut Random, document: &Document) -> f64 {
+    let elements = document.routes.elements() as u32;
+    if elements < 2 {
+        return 0.001;
+    }
+    let from = random.below(elements);
+    let to = (from + random.between(1, elements - 1)) % elements;
+    let turn = document.turn_term(1.0, from, random.below(2), to, random.below(2)).abs();
+    neighbour(random, turn / -LOWEST_POSSIBLE).clamp(0.001, 1_000_000.0)
+}
+
+fn settings(random: &mut Random, document: &Document) -> Settings {
     let edges = [0.001, 1_000_000.0, 50.0, 1.0];
     let drawn = 10f64.powf(random.unit() * 9.0 - 3.0).clamp(0.001, 1_000_000.0);
     let beta = match random.below(10) {
@@ -68,7 +88,14 @@ fn settings(random: &mut Random) -> Settings {
         2..=5 => random.pick(&edges),
         _ => drawn,
     };
-    Settings { beta, scale: if random.chance(50) { random.pick(&edges) } else { random.unit() * 100.0 + 0.001 } }
+    // With beta 0 only a turn can score so low.
+    let lowest = if beta == 0.0 { 60 } else { 20 };
+    let scale = match random.below(2) {
+        _ if random.chance(lowest) => lowest_scale(random, document),
+        0 => random.pick(&edges),
+        _ => random.unit() * 100.0 + 0.001,
+    };
+    Settings { beta, scale }
 }
 
 fn raw_log(random: &mut Random, habits: &Habits) -> f64 {
@@ -101,11 +128,26 @@ fn candidate(random: &mut Random, habits: &Habits, elements: u32, before: Option
     }
 }
 
+/// A distance at which a side pair with this route and turn scores the lowest possible score or one next to it: longer than the route, or shorter.
+fn lowest_distance(random: &mut Random, beta: f64, route: f64, turn_term: f64) -> f64 {
+    let score = random.pick(&[LOWEST_POSSIBLE, -745.0000000000001, -744.9999999999999]);
+    let gap = ((turn_term - score) * beta).max(0.0);
+    let shorter = gap <= route && random.chance(50);
+    neighbour(random, if shorter { route - gap } else { route + gap })
+}
+
 /// A distance between two candidates: often the route's length at a side pair, or close to it.
-fn distance(random: &mut Random, document: &mut Document, from: &Candidate, to: &Candidate) -> f64 {
-    let route = document.route_length(from, random.below(2), to, random.below(2)).unwrap_or(0.0);
+fn distance(random: &mut Random, habits: &Habits, session: &mut Session<Document>, from: &Candidate, to: &Candidate) -> f64 {
+    let (settings, document) = (session.settings, &mut session.core);
+    let [out, into] = [(); 2].map(|_| random.below(2));
+    let known = document.route_length(from, out, to, into);
+    let route = known.unwrap_or(0.0);
     let off = [1e-9, 9.999999999999999e-10, 1.0000000000000002e-9, 5e-10, 0.5, 1.0, 100.0];
     let value: f64 = match random.below(10) {
+        _ if known.is_some() && random.chance(habits.lowest) => {
+            let turn_term = document.turn_term(settings.scale, from.element, out, to.element, into);
+            lowest_distance(random, settings.beta, route, turn_term)
+        }
         0..=3 => route,
         4 => route + random.pick(&off),
         5 => route - random.pick(&off),
@@ -129,7 +171,7 @@ fn fix(random: &mut Random, habits: &Habits, script: &mut Script) -> Fix {
     let candidates: Vec<Candidate> = (0..count).map(|_| candidate(random, habits, elements, before)).collect();
     let mut distances = Vec::new();
     for from in before.map_or(&[][..], |fix| &fix.candidates) {
-        distances.extend(candidates.iter().map(|to| distance(random, &mut script.session.core, from, to)));
+        distances.extend(candidates.iter().map(|to| distance(random, habits, &mut script.session, from, to)));
     }
     Fix { candidates, distances }
 }
@@ -228,7 +270,7 @@ fn row_count(random: &mut Random) -> u32 {
 /// Other settings, or another network of about as many elements, under the standing rows; some that are refused.
 fn change(random: &mut Random, script: &mut Script) {
     let outside = [-1.0, 0.0009999999999999998, 1_000_000.000_000_000_1, f64::NAN, f64::INFINITY];
-    let Settings { mut beta, mut scale } = settings(random);
+    let Settings { mut beta, mut scale } = settings(random, &script.session.core);
     match random.below(10) {
         0 => beta = random.pick(&outside),
         1 => scale = random.pick(&outside),
@@ -321,7 +363,7 @@ fn hurt(random: &mut Random, script: &mut Script, habits: &Habits) {
 pub fn drive(random: &mut Random, out: &mut String, network: &Network) {
     let mut script = Script { out, session: Session::new(Document::new(&Network::default())) };
     script.say(&networks::text(network));
-    let Settings { beta, scale } = settings(random);
+    let Settings { beta, scale } = settings(random, &script.session.core);
     script.say(&format!("settings {} {}", float(beta), float(scale)));
     if random.chance(1) {
         script.say("journal 0\nfeed 0 0\nstrike 0\nclose\nsegments\nrow 0\nsteps 0\nopen\nwords");

@@ -69,7 +69,7 @@ fn refuse_if(refused: bool, number: u32) -> Result<(), No> {
 pub struct Session<C: Core> {
     pub core: C,
     pub network: Network,
-    settings: Settings,
+    pub settings: Settings,
     journal: Vec<u32>,
     /// The slices that the next call gets cut short.
     shorts: HashMap<String, usize>,

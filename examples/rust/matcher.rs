@@ -168,7 +168,7 @@ pub struct Path<'b> {
     pub candidates: &'b [u32],
 }
 
-/// The possible steps into a row; the first `count` entries of each field.
+/// The possible steps into a row, with their scores from -745.0 to 0; the first `count` entries of each field.
 #[derive(Clone, Copy)]
 #[allow(missing_docs)]
 pub struct Steps {

@@ -13,8 +13,9 @@ use lib.Ieee.Fits.{down-pos}
 use lib.Ieee.Exact.{HasValue, round-exact}
 use lib.Ieee.Back.{round-whole}
 use lib.Ieee.Scale.{finite, round-same}
-use Rattle.binary64.specs.Values.{clear, ofWhole}
+use Rattle.binary64.specs.Values.{clear, pzero, ofWhole}
 use Rattle.binary64.proofs.Sum.{finite-sum-number, add-mono}
+use Rattle.binary64.proofs.Costs.{clear-le}
 
 -- ---- the sum of two values of one sign, by the fractions that they equal
 fractions : (X g Y h a c b d : ℕ) → X * c ≡ a * g → Y * d ≡ b * h → (X * h + Y * g) * (c * d) ≡ (a * d + b * c) * (g * h)
@@ -90,11 +91,17 @@ scaled f s q j h k =
     let below : q * 2 ^ (j + l) < 2 ^ (l + suc (emax f)) = rw (← mul-one (q * 2 ^ (j + l)), ← same, ← far) (mul-lt-mul-of-pos-right k (pow-pos l)) in
     round-exact f s (q * 2 ^ j) 1 q (j + l) (zero-lt-suc 0) h below same
 
--- ---- a cost under a finite bound is finite
+-- ---- between two finite bounds a value is finite
+pub between-finite : (A x B : Float) → T (finite A) → T (finite B) → T (le A x) → T (le x B) → T (finite x)
+between-finite A nan B p q h k = absurd (unfold le in k)
+between-finite nan (inf s) B p q h k = absurd p
+between-finite (inf t) (inf s) B p q h k = absurd p
+between-finite (fin t m e) (inf true) B p q h k = absurd (unfold le in h)
+between-finite (fin t m e) (inf false) nan p q h k = absurd q
+between-finite (fin t m e) (inf false) (inf u) p q h k = absurd q
+between-finite (fin t m e) (inf false) (fin u n d) p q h k = absurd (unfold le in k)
+between-finite A (fin s m e) B p q h k = tt
+
+-- so is a cost under one
 pub clear-finite : (x B : Float) → T (clear x) → T (finite B) → T (le x B) → T (finite x)
-clear-finite nan B p q h = absurd p
-clear-finite (inf true) B p q h = absurd p
-clear-finite (inf false) nan p q h = absurd q
-clear-finite (inf false) (inf t) p q h = absurd q
-clear-finite (inf false) (fin t n d) p q h = absurd (unfold le in h)
-clear-finite (fin s m e) B p q h = tt
+clear-finite x B p q h = between-finite pzero x B tt q (clear-le x p) h

@@ -1,4 +1,4 @@
--- What a range test tells: the order on both sides, and that the value is no NaN. And what the sign bit tells. Assumes nothing.
+-- What a range test tells: the order on both sides, that the value is no NaN, and finite between finite ends. And what the sign bit tells. Assumes nothing.
 use mathlib.Core.Path.{_≡_, refl}
 use mathlib.Core.Bool.{true, false, not}
 use Prim.Native.Nat.{ℕ, zero, suc, _^_, _<_, _≤_}
@@ -8,10 +8,12 @@ use lib.IntN.{ℤ}
 use lib.Ieee.{Float, nan, inf, fin, binary64, eq, le, lt, isNan, fits, toBits}
 use lib.Ieee.Bits.{toBits-lt}
 use lib.Ieee.Fits.{and-l, and-r}
+use lib.Ieee.Scale.{finite}
 use borrow.Author.Tests.{lt-ltb, le-ltb}
 use Rattle.binary64.specs.Values.{clear, isMinusInfinity}
 use Rattle.binary64.specs.Ranges.{inRange, inClearRange, inOpenRange}
 use Rattle.binary64.proofs.Order.{le-right, taken}
+use Rattle.binary64.proofs.Bounds.{between-finite}
 
 module _ (low high x : Float) where
   pub range-low : T (inRange low high x) → T (le low x)
@@ -24,6 +26,9 @@ module _ (low high x : Float) where
 
   pub range-number : inRange low high x ≡ true → T (not (isNan x))
   range-number e = le-right low x (range-low (taken e))
+
+  pub range-finite : T (finite low) → T (finite high) → T (inRange low high x) → T (finite x)
+  range-finite p q h = between-finite low x high p q (range-low h) (range-high h)
 
   pub clear-range-range : T (inClearRange low high x) → T (inRange low high x)
   unfolding inClearRange

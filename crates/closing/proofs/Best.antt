@@ -5,10 +5,10 @@ use lib.Ieee.{Float, le}
 use lib.Ieee.Scale.{finite}
 use Rattle.binary64.specs.Values.{pzero}
 use Rattle.binary64.proofs.Order.{le-left}
+use Rattle.binary64.proofs.Bounds.{between-finite}
 use Rattle.journal.specs.Row.{Row, rowSize, scoreOf, scores}
 use Rattle.rows.specs.Row.{bestOf}
 use Rattle.decoder.proofs.Best.{lastBest-all, lastBest-at, lastBest-greatest}
-use Rattle.decoder.proofs.Bound.{between}
 use Rattle.decoder.proofs.Cells.{scores-elim}
 
 module _ (r : Row) (low : (i : ℕ) → T (le (scoreOf r i) pzero)) where
@@ -16,7 +16,7 @@ module _ (r : Row) (low : (i : ℕ) → T (le (scoreOf r i) pzero)) where
   best-finite : T (scores r) → T (finite (bestOf r .1))
   best-finite t =
       let s = scores-elim r t in
-      between (scoreOf r (s .0)) (bestOf r .1) (s .2)
+      between-finite (scoreOf r (s .0)) (bestOf r .1) pzero (s .2) tt
       (lastBest-greatest (scoreOf r) (λ i. le-left (scoreOf r i) pzero (low i)) (rowSize r) (s .0) (s .1))
       (lastBest-all (λ (x : Float). T (le x pzero)) (unfold le in tt) (scoreOf r) low (rowSize r))
 

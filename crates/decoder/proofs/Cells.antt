@@ -28,7 +28,7 @@ use Rattle.journal.proofs.Rules.{candidate-rules}
 use Rattle.transition.specs.declared.step.Step.{Step}
 use Rattle.transition.specs.declared.step.Step.the-variants.{Possible, Impossible}
 use Rattle.rows.specs.Row.{StepScore, firstBest, floor, breakScore, floored, bestOf, sumThrough, isPossible, offer, broken, scored, row}
-use Rattle.decoder.proofs.Bound.{bound, Within, most, sum-bound, minus-inf-within, unit}
+use Rattle.decoder.proofs.Bound.{bound, Within, most, sum-bound, minus-inf-within, bound-step, unit}
 
 -- ---- a finite score is some candidate's
 pub cell-outside : (r : Row) (j : ℕ) → rowSize r ≤ j → scoreOf r j ≡ inf true
@@ -138,6 +138,8 @@ module _ (step : StepScore) (p : Row) (f : Fix) where
       (any-intro (rowSize p) j (λ j. isPossible (offer step p f i j)) k (subst (λ (s : Step). T (isPossible s)) (sym e) tt)))
 
 -- ---- a candidate's logs
+
+-- the least raw log; a step's lowest score is the same
 abbrev lowest745 : Float
 lowest745 = fin true 745 (pos 0)
 
@@ -155,7 +157,7 @@ module _ (n : ℕ) (c : Candidate) (h : T (candidateOk n c)) where
       go (inf false) k = absurd (unfold rawLogOk inRange le lt in k)
       go (fin s m e) k = (
         and-r (le lowest745 (fin s m e)) (le (fin s m e) pzero) (raw-finite s m e k),
-        λ (t : Unit {0}). le-trans (bound 1) lowest745 (fin s m e) (unfold bound unit round le in tt) (and-l (le lowest745 (fin s m e)) (le (fin s m e) pzero) (raw-finite s m e k)),
+        λ (t : Unit {0}). le-trans (bound 1) lowest745 (fin s m e) bound-step (and-l (le lowest745 (fin s m e)) (le (fin s m e) pzero) (raw-finite s m e k)),
       )
 
   pub floored-le : T (le (floored c) pzero)

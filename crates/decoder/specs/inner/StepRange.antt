@@ -9,7 +9,7 @@ use Rattle.transition.specs.inner.Range.{ScoreOk}
 use Rattle.transition.specs.declared.step.Step.the-variants.{Possible}
 use Rattle.rows.specs.Row.{StepScore}
 
--- what is asked of the step score in a network of n elements: in range a possible one is at most 0, and at least -5 * 10^12
+-- what is asked of the step score in a network of n elements: in range a possible one is at most 0, and at least -745.0
 abbrev pub StepInRange : StepScore → ℕ → Type 0
 StepInRange step n =
     (a b : Candidate) (d v : Float) → T (candidateOk n a) → T (candidateOk n b) → T (distanceOk d) → step a b d ≡ Possible v → ScoreOk v
