@@ -2,6 +2,7 @@
 pub mod Lists
 pub mod Rules
 pub mod Product
+pub mod LengthTable
 pub mod Stores
 pub mod Gathered
 pub mod Reading

@@ -1,7 +1,7 @@
 -- Reading a record gives its row back, and reading a journal its rows. Assumes nothing.
 use Prim.Native.Nat.{ℕ, zero, suc, _+_, _-_, _*_, _/_, _%_, _<_, _≤_}
 use native.Mathlib.Omega.{arith}
-use native.Mathlib.Nat.{zero-add, div-add-mod', mul-le-mul, add-sub-of-le}
+use native.Mathlib.Nat.{zero-add, div-add-mod', add-sub-of-le}
 use mathlib.Core.Path.{_≡_, refl, sym, ap, _∙_, subst}
 use mathlib.Core.Bool.{Bool, true, false, _&&_, cond}
 use mathlib.Core.List.{List, [], _∷_, _++_, append-assoc, append-nil}
@@ -18,6 +18,7 @@ use Rattle.journal.specs.Ranges.{candidateLimit, rowLimit}
 use Rattle.journal.specs.Record.{headWord, candidateWord, distancesWord, lengthWord, usedWord, highHalf, lowHalf, headOf, cellWords, floatWords, recordLength, recordOf, readFloat, readCell, readDistance, readEach, headCount, headBefore, readRow}
 use Rattle.journal.specs.Journal.{words, predecessorPlace, recordOn, journal, rowOk, recordOk, readRows, used, usedWords, readJournal}
 use Rattle.journal.specs.WellFormed.{Each, Fitting, CellFits, RowFits, Obey}
+use Rattle.journal.proofs.LengthTable.{length-small}
 use Rattle.journal.proofs.Lists.{cond-true, some-none, length-flat, starts-self}
 
 -- ---- a field
@@ -85,8 +86,7 @@ unfolding recordOf
 record-least place r = simp length-append (omega arith)
 
 pub record-small : (place : ℕ) (r : Row) → RowFits r → length (recordOf place r) ≤ 628
-unfolding recordLength
-record-small place r h = omega (arith, length-record place r (h .number), mul-le-mul (h .few) (h .few-before))
+record-small place r h = omega (arith, length-record place r (h .number), length-small (h .few) (h .few-before))
 
 -- ---- a record
 

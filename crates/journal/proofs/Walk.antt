@@ -9,11 +9,11 @@ use mathlib.Core.Option.{Option, none, some}
 use lib.Dec.{T, eqb, leb, eqb→eq}
 use lib.ListN.{length, getD, take, drop, length-append, length-drop, drop-of-length-le}
 use lib.Seq.{drop-drop}
-use lib.Ieee.Fits.{and-l, eq→eqb}
+use lib.Ieee.Fits.{and-l, and-r, eq→eqb}
 use Rattle.binary64.proofs.Order.{taken, same-test}
 use Rattle.journal.specs.Lists.{starts}
 use Rattle.journal.specs.Row.{Row, rowSize, scores, predecessor, sizeOf}
-use Rattle.journal.specs.Ranges.{rowLimit}
+use Rattle.journal.specs.Ranges.{candidateLimit, rowLimit}
 use Rattle.journal.specs.Record.{usedWord, readRow}
 use Rattle.journal.specs.Journal.{words, predecessorPlace, recordOn, rowOk, recordOk, readRows, used, usedWords, readJournal}
 use Rattle.journal.specs.inner.Check.{wellRead, recordAt, latestOf, candidatesOf, placeOf, surveyOf, survey}
@@ -22,6 +22,7 @@ use Rattle.journal.specs.declared.check.Predecessor.{Predecessor}
 use Rattle.journal.specs.declared.check.Predecessor.the-variants.{Nothing, At}
 use Rattle.journal.specs.declared.check.Survey.the-variants.{NotWellFormed, WellFormed}
 use Rattle.journal.proofs.Lists.{starts-split}
+use Rattle.journal.proofs.Rules.{row-rules}
 use Rattle.journal.proofs.Reading.{record-least, read-at, read-end}
 use Rattle.journal.proofs.Stores.{take-rest}
 
@@ -122,6 +123,12 @@ module _ (rs : List Row) (ws : List ℕ) where
       let split = starts-split (recordOn rs (readRow ws)) ws (and-l (starts (recordOn rs (readRow ws)) ws) (rowOk (sizeOf (predecessor rs)) (length rs) (readRow ws)) t) in
       (record-least (predecessorPlace rs) (readRow ws), omega (arith, simp length-append at (ap length split)))
 
+  -- its row has as many candidates as a fix may have, at most
+  few : T (recordOk rs (readRow ws) ws) → rowSize (readRow ws) ≤ candidateLimit
+  few t =
+      let obeys = and-r (starts (recordOn rs (readRow ws)) ws) (rowOk (sizeOf (predecessor rs)) (length rs) (readRow ws)) t in
+      row-rules (sizeOf (predecessor rs)) (length rs) (readRow ws) obeys .few
+
 -- ---- the walk
 
 -- what the row reader is asked, which is lent `&journal[at..]`
@@ -137,6 +144,7 @@ pub record Walked (journal : List ℕ) (at rows : ℕ) (latest : Predecessor) : 
   pub placed : suc (length (words standing)) ≡ at
   pub inside : at ≤ length journal
   pub last : latestOf standing ≡ latest
+  pub size : candidatesOf latest ≤ candidateLimit
   pub left : readRows (rowLimit - rows) standing (drop at journal) ≡ readRows rowLimit [] (drop 1 journal)
 
 pub walked-start : (journal : List ℕ) → 1 ≤ length journal → Walked journal 1 0 Nothing
@@ -147,6 +155,7 @@ walked-start journal h = record {
   placed = unfold words in refl;
   inside = h;
   last = unfold latestOf in refl;
+  size = omega arith;
   left = refl;
 }
 
@@ -214,12 +223,18 @@ module _ (journal : List ℕ) (at rows : ℕ) (latest : Predecessor) (w : Walked
               placed = longer r (f .long);
               inside = walked-room .1;
               last = latest-new r (w .standing) ∙ picked r (f .many) (f .score);
+              size = small s;
               left = sym (ap (λ (n : ℕ). readRows n (w .standing) (drop at journal)) one-more
                   ∙ read-at (rowLimit - (rows + 1)) (w .standing) r (drop at journal) some-left refl (f .ok)
                   ∙ ap (λ (n : ℕ). readRows (rowLimit - (rows + 1)) (r ∷ w .standing) (drop n (drop at journal))) (sym (f .long))
                   ∙ ap (readRows (rowLimit - (rows + 1)) (r ∷ w .standing)) (drop-drop l at journal)) ∙ w .left;
             }
           where
+            -- its candidates, or those of the predecessor before it
+            small : (b : Bool) → candidatesOf (cond b (At at rows c) latest) ≤ candidateLimit
+            small true = omega (arith, one-found .many, few (w .standing) (drop at journal) (one-found .ok))
+            small false = w .size
+
             longer : (r : Row) → l ≡ length (recordOn (w .standing) r) → suc (length (words (r ∷ w .standing))) ≡ at + l
             longer r q = unfold words in omega (arith, length-append (words (w .standing)) (recordOn (w .standing) r), w .placed)
 

@@ -1,5 +1,6 @@
 -- What the contracts of private functions and the laws of `journal` cite beside the believed definitions.
 pub mod Check
 pub mod Fix
+pub mod LengthTable
 pub mod Row
 pub mod Strike

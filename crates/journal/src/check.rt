@@ -1,4 +1,5 @@
 // Check 7: whether a journal is well formed, in one pass over the used words.
+use crate::lengths::record_lengths;
 use crate::read::Record;
 use crate::read::read_row;
 ghost use mathlib.Core.Bool.{cond};
@@ -83,6 +84,7 @@ pub fn walk(journal: &[u32]) -> Survey
     requires { ⌜ (1 ≤ length (now journal)) × (length (now journal) < 268435456) ⌝ }
     ensures { λ r. ⌜ r ≡ surveyOf (length (now (journal .entry))) (readRows rowLimit [] (drop 1 (now (journal .entry)))) ⌝ }
 {
+    let lengths = record_lengths();
     let mut at = 1;
     let mut rows = 0;
     let mut latest = Predecessor::Nothing;
@@ -92,6 +94,7 @@ pub fn walk(journal: &[u32]) -> Survey
         }
         let record = read_row(
             &journal[at..],
+            &lengths,
             place_of(latest),
             candidates_of(latest),
             rows,

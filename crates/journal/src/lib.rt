@@ -4,6 +4,7 @@ pub mod check;
 pub mod fix;
 pub mod float;
 mod halves;
+pub mod lengths;
 pub mod range;
 pub mod read;
 pub mod record;

@@ -5,21 +5,22 @@ use crate::halves::greatest_half;
 use crate::halves::intrinsic_reads;
 use crate::halves::raw_log_reads;
 use crate::halves::score_reads;
+use crate::lengths::length_in;
 use crate::range::distance_ok;
 use crate::range::parent_ok;
 use crate::record::Candidate;
 use crate::record::FIRST_CELL;
 use crate::record::distance_count;
-use crate::record::record_length;
 ghost use mathlib.Core.Path.{_≡_};
 ghost use Prim.Native.Nat.{_+_, _*_, _<_, _≤_};
 ghost use lib.ListN.{length, drop};
 ghost use lib.Ieee.Scale.{finite};
 ghost use Rattle.lists.specs.Loops.{anyBelow, everyBelow};
 ghost use Rattle.journal.specs.Row.{beforeOf};
-ghost use Rattle.journal.specs.Ranges.{distanceOk, cellOk};
+ghost use Rattle.journal.specs.Ranges.{candidateLimit, distanceOk, cellOk};
 ghost use Rattle.journal.specs.Record.{firstCell, cellWords, floatWords, floatAt, readCell, readDistance, recordLength};
 ghost use Rattle.journal.specs.inner.Check.{wellRead, bodyReads, recordAt};
+ghost use Rattle.journal.specs.inner.LengthTable.{LengthTable};
 
 // What stands at the head of some words: no record, or a record's length, its number of candidates and whether its row scores.
 pub enum Record {
@@ -137,10 +138,10 @@ pub fn before_of(q: usize, c: usize) -> usize
     if c == 0 { 0 } else { q }
 }
 
-// Whether what follows the head word of c candidates with p predecessor candidates is a record's, with the predecessor's at `place`.
-fn body_reads(words: &[u32], place: usize, c: usize, p: usize, row: usize) -> bool
+// Whether what follows the head word of c candidates with p predecessor candidates is a record's, which ends at `end`, with the predecessor's at `place`.
+fn body_reads(words: &[u32], place: usize, c: usize, p: usize, end: usize, row: usize) -> bool
     requires { ⌜ (c < 32) × (p < 32) × (row < 65536) × (place < 268435456) ⌝ }
-    requires { ⌜ recordLength c p ≤ length (now words) ⌝ }
+    requires { ⌜ (end ≡ recordLength c p) × (end ≤ length (now words)) ⌝ }
     ensures { λ r. ⌜ r ≡ bodyReads place c p row (now (words .entry)) ⌝ }
 {
     if words[1] != 0x7000_0000 + place as u32 {
@@ -157,14 +158,14 @@ fn body_reads(words: &[u32], place: usize, c: usize, p: usize, row: usize) -> bo
     if !distances_read(words, at + 1, n) {
         return false;
     }
-    let length = record_length(c, p);
-    let last = length - 1;
-    words[last] == 0x4000_0000 + length as u32
+    let last = end - 1;
+    words[last] == 0x4000_0000 + end as u32
 }
 
 // The record at the head of the words, as this row on a predecessor of q candidates, whose record starts at `place`.
-pub fn read_row(words: &[u32], place: usize, q: usize, row: usize) -> Record
-    requires { ⌜ (row < 65536) × (place < 268435456) ⌝ }
+pub fn read_row(words: &[u32], lengths: &[u16; 289], place: usize, q: usize, row: usize) -> Record
+    requires { ⌜ LengthTable (now lengths) ⌝ }
+    requires { ⌜ (q ≤ candidateLimit) × (row < 65536) × (place < 268435456) ⌝ }
     ensures { λ r. ⌜ r ≡ recordAt place q row (now (words .entry)) ⌝ }
 {
     if words.len() == 0 {
@@ -182,11 +183,11 @@ pub fn read_row(words: &[u32], place: usize, q: usize, row: usize) -> Record
     if p != before_of(q, c) {
         return Record::Bad;
     }
-    let length = record_length(c, p);
+    let length = length_in(lengths, c, p);
     if words.len() < length {
         return Record::Bad;
     }
-    if !body_reads(words, place, c, p, row) {
+    if !body_reads(words, place, c, p, length, row) {
         return Record::Bad;
     }
     let scores = scores_read(words, c);

@@ -2,6 +2,7 @@
 use crate::fix::Candidates;
 use crate::fix::own_candidate;
 use crate::float::put_float;
+use crate::lengths::record_length;
 ghost use mathlib.Core.Path.{_≡_};
 ghost use mathlib.Core.List.{List};
 ghost use Prim.Native.Nat.{ℕ, _+_, _*_, _<_, _≤_};
@@ -11,7 +12,7 @@ ghost use Rattle.journal.specs.Lists.{flat};
 ghost use Rattle.journal.specs.Row.{Cell, Row, noCell};
 ghost use Rattle.journal.specs.inner.Row.{cellsOf, rowOf, CellWritable, RowWritable};
 ghost use Rattle.journal.specs.inner.Fix.{candidatesIn, fixIn, Entries16};
-ghost use Rattle.journal.specs.Record.{cellWords, distancesWords, firstCell, recordLength, recordOf};
+ghost use Rattle.journal.specs.Record.{cellWords, distancesWords, firstCell, recordOf};
 ghost use Rattle.journal.specs.Journal.{put};
 
 // Document 01's candidate: an element number, an intrinsic, a near flag and a raw log.
@@ -31,14 +32,6 @@ pub fn distance_count(c: usize, p: usize) -> usize
     ensures { λ r. ⌜ r ≡ c * p ⌝ ∗ ⌜ r ≤ 961 ⌝ }
 {
     c * p
-}
-
-// The record length of c candidates with p predecessor candidates.
-pub fn record_length(c: usize, p: usize) -> usize
-    requires { ⌜ (c < 32) × (p < 32) ⌝ }
-    ensures { λ r. ⌜ r ≡ recordLength c p ⌝ ∗ ⌜ r ≤ 2143 ⌝ }
-{
-    7 * c + 2 * distance_count(c, p) + 4
 }
 
 // The seven words of a candidate, its parent and its score at `at`.

@@ -71,30 +71,30 @@ returns-4 : tie.Need-returns-4
 unfolding bodyReads
 returns-4 c = simp (eq-eqb _ _ (c .before .before .before .before .before .before .before .if1 .left), sym (c .before .before .before .before .before .before .cells-read .ensures) ∙ not-false _ (c .before .before .before .before .before .if2 .left), ← c .before .before .before .before .distance-count .ensures .0, eq-eqb _ _ (c .before .before .if3 .left), sym (c .before .distances-read .ensures) ∙ not-true _ (c .if4 .taken))
 
-record-length-requires : tie.Need-record-length-requires
-record-length-requires c κs = search needs
-
 sub-last : tie.Need-sub-last
 unfolding recordLength
-sub-last c = omega (arith, c .record-length .ensures .0)
+sub-last c = omega arith
 
 mul-result : tie.Need-mul-result
 mul-result c = omega arith
 
 shared-slice-read-result : tie.Need-shared-slice-read-result
 unfolding recordLength
-shared-slice-read-result c = omega (arith, c .before .record-length .ensures .0)
+shared-slice-read-result c = omega arith
 
 cast-result : tie.Need-cast-result
-cast-result c = omega arith
+unfolding recordLength
+cast-result c = omega (arith, c .before .before .before .before .before .distance-count .ensures)
 
 add-result : tie.Need-add-result
-add-result c = omega arith
+unfolding recordLength
+add-result c = omega (arith, c .before .before .before .before .before .distance-count .ensures)
 
 returns-5 : tie.Need-returns-5
 returns-5 c =
-    let s = c .before .before .before .before .before .before .before .before .before .before .before .before .args in
-    body-last (s .place) (s .c) (s .p) (s .row) (s .words .now) _ _ (c .before .record-length .ensures .0) (c .before .before .before .before .before .before .distance-count .ensures .0) (eq-eqb _ _ (c .before .before .before .before .before .before .before .before .before .if1 .left)) (sym (c .before .before .before .before .before .before .before .before .cells-read .ensures) ∙ not-false _ (c .before .before .before .before .before .before .before .if2 .left)) (eq-eqb _ _ (c .before .before .before .before .if3 .left)) (sym (c .before .before .before .distances-read .ensures) ∙ not-false _ (c .before .before .if4 .left))
+    let start = c .before .before .before .before .before .before .before .before .before .before .before in
+    let s = start .args in
+    body-last (s .place) (s .c) (s .p) (s .row) (s .words .now) _ _ (start .pre .1 .0) (c .before .before .before .before .before .distance-count .ensures .0) (eq-eqb _ _ (c .before .before .before .before .before .before .before .before .if1 .left)) (sym (c .before .before .before .before .before .before .before .cells-read .ensures) ∙ not-false _ (c .before .before .before .before .before .before .if2 .left)) (eq-eqb _ _ (c .before .before .before .if3 .left)) (sym (c .before .before .distances-read .ensures) ∙ not-false _ (c .before .if4 .left))
 
 pub body-reads-spec : {M : Type 1} → statement M
 body-reads-spec =
@@ -118,7 +118,6 @@ body-reads-spec =
     add-distances-read
     distances-read-requires
     returns-4
-    record-length-requires
     sub-last
     mul-result
     shared-slice-read-result
