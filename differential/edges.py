@@ -1,6 +1,7 @@
 """Cases in which each call refuses with each number that it has, and their neighbours that it accepts, at both edges of each range; and the edges at
 which a side pair or a step is possible or a bridge is made."""
 
+import itertools
 import math
 import struct
 
@@ -169,7 +170,7 @@ def damages():
     yield from ((0, value) for value in (0x50000000 + USED + 1, 0x50000064, 0x50000065, 0x5FFFFFFF, USED, 0xFFFFFFFF))
     for at, head in heads:
         yield from ((at, value) for value in (head ^ 0x10000000, head + 1, head + 0x20, head | 0x400, head | 0x08000000, head & ~0x1F))
-    yield from ((ROWS[2], 0x10000000 | 17), (ROWS[2], 0x10000000))
+    yield from ((ROWS[2], 0x10000000 | p << 5 | c) for c, p in ((0, 0), (17, 0), (16, 2), (17, 2), (31, 2), (1, 16), (1, 17), (1, 31), (31, 31)))
     for at, named in zip(CELLS, (31 << 11, 0, 1 << 11, 0)):
         word_of = 0x20000000 | named
         yield from ((at, value) for value in (word_of | 1023, word_of | 1024, word_of | 0x10000, word_of ^ 0x20000000))
@@ -272,6 +273,11 @@ def fixes():
         yield f"journal {room}\n" + feed(candidate()) + "words\n"
     for room in (0, 1, 4, 5):
         yield f"journal {room}\nopen\n" + feed()
+    yield title(12, "the last word of a record, by the candidates of its row and of the predecessor")
+    for c, p in itertools.product((0, 1, 2, 16), repeat=2):
+        end = places(((p, 0), (c, p)))[-1]
+        rows_fed = feed(*(candidate(),) * p) + feed(*(candidate(),) * c, distances=(1.0,) * (c * p))
+        yield from (f"journal {room}\n{rows_fed}" for room in (end - 1, end))
     yield title("8 to 12", "all at once, then without the first of them, and so on")
     crowd = (candidate(),) * 17
     for fix in (feed(*crowd, distances=(NAN,)), feed(candidate(3), distances=(NAN,)), feed(candidate(), distances=(NAN,)), feed(candidate())):

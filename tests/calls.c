@@ -1,6 +1,6 @@
 /* What the calls answer through the header. `calls GROUP` says what differs, and exits with 1 if anything does:
    refusals, each number from a smallest call, which changes nothing; limits, at them and past them; empty, slices without
-   entries; words, the journal of document 01's one fix, and the predecessors that rows name. */
+   entries; words, the journal of document 01's one fix, the predecessors that rows name, and every length of a record. */
 #include "box.h"
 
 #include <math.h>
@@ -26,7 +26,8 @@ static uint32_t to_side[MOST_RELATIONS], ways[MOST_RELATIONS];
 static struct box_network network = {3, lengths, headings, flags, 2, from, to, from_side, to_side, ways, ways};
 
 /* All that the calls may write. */
-enum { WORDS = 1 + BOX_RECORD_WORDS(BOX_MAX_CANDIDATES, BOX_MAX_CANDIDATES), ROOM = 8 };
+enum { ROOM = 8,
+    WORDS = 1 + BOX_RECORD_WORDS(BOX_MAX_CANDIDATES, 0) + BOX_RECORD_WORDS(BOX_MAX_CANDIDATES, BOX_MAX_CANDIDATES) };
 
 static struct lent {
     uint32_t journal[WORDS], numbers[5][BOX_MAX_STEPS], decisions[6 * ROOM], consistent;
@@ -295,6 +296,20 @@ static void predecessors(void) {
     expect("the last row's predecessor", lent.journal[LAST + 1], 0x70000000 + SECOND);
 }
 
+/* A row of c candidates on a predecessor of p, 0 to 16 each: how long its record is, and that no less room is enough. */
+static void record_words(void) {
+    for (uint32_t pair = 0; pair < 17 * 17; pair++) {
+        uint32_t c = pair / 17, p = pair % 17, used = 1 + BOX_RECORD_WORDS(p, 0), end = used + BOX_RECORD_WORDS(c, p);
+        start();
+        expect("the predecessor", feed(p, 0), BOX_DONE);
+        expect("a word too few for a record", feed_into(end - 1, c, c * p), BOX_REFUSED_ROOM);
+        expect("room for a record", feed_into(end, c, c * p), BOX_DONE);
+        expect("used words", lent.journal[0], 0x50000000 + end);
+        expect("a record's length", lent.journal[end - 1], 0x40000000 + end - used);
+        expect("both rows struck", strike(2), BOX_DONE);
+    }
+}
+
 static void words(void) {
     static const uint32_t document[12] = {
         0x5000000C, 0x10000001, 0x70000000, 0x2000FC00, 0x3FE00000, 0, 0xBFF00000, 0, 0xBFF00000, 0, 0x30000000, 0x4000000B,
@@ -304,6 +319,7 @@ static void words(void) {
     expect("document 01's words", memcmp(lent.journal, document, sizeof document) == 0, 1);
     expect("the word past them", lent.journal[12], 0xEEEEEEEE);
     predecessors();
+    record_words();
 }
 
 int main(int count, char **arguments) {

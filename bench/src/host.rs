@@ -80,6 +80,12 @@ pub fn check(journal: &mut [u32]) {
     accepted(unsafe { linked::box_strike(journal.as_mut_ptr(), journal.len(), 0) }, "strike");
 }
 
+/// That of the checkout before.
+#[cfg(feature = "before")]
+pub fn check_before(journal: &mut [u32]) {
+    accepted(unsafe { linked::before_box_strike(journal.as_mut_ptr(), journal.len(), 0) }, "strike");
+}
+
 pub fn feed(s: &Slices, settings: Settings, journal: &mut [u32], fix: &FixSlices) {
     let [from, to, from_side, to_side, forward, backward] = &s.relations;
     let status = unsafe {

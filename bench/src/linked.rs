@@ -43,3 +43,8 @@ calls! {
         journal: Words, words: usize, segments: *mut Segment, n9: usize, count: *mut usize
     );
 }
+
+#[cfg(feature = "before")]
+calls! {
+    before_box_strike(journal: *mut u32, words: usize, n: u32);
+}

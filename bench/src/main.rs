@@ -180,6 +180,22 @@ fn checks(journal: &mut [u32]) {
     let (by_words, plain) = (sum(sum_by_words), sum(plain_sum));
     print_row("check 7, 10,000 rows, beside a plain sum of its words", "4.000", check, plain);
     print_row("check 7, 10,000 rows, beside a sum of one word after the other", "", check, by_words);
+    #[cfg(feature = "before")]
+    checks_by_turns(journal, plain);
+}
+
+/// Check 7 and that of the checkout before by turns, so that what the machine does meanwhile falls on both.
+#[cfg(feature = "before")]
+fn checks_by_turns(journal: &mut [u32], plain: Times) {
+    let mut micros = [Vec::new(), Vec::new()];
+    for turn in 0..2 * 101 {
+        let began = Instant::now();
+        [host::check, host::check_before][turn % 2](journal);
+        micros[turn % 2].push(began.elapsed().as_secs_f64() * 1e6);
+    }
+    let [now, before] = micros.map(Times::of);
+    print_row("check 7 of the checkout before, beside the plain sum", "", before, plain);
+    print_row("check 7, beside that of the checkout before, by turns", "", now, before);
 }
 
 fn close_and_build(slices: &Slices, journal: &[u32]) -> Times {
