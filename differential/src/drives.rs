@@ -47,7 +47,7 @@ struct Habits {
 
 fn habits(random: &mut Random) -> Habits {
     Habits {
-        most_candidates: random.pick(&[1, 2, 2, 3, 3, 3, 4]),
+        most_candidates: if random.chance(1) { 16 } else { random.pick(&[1, 2, 2, 3, 3, 3, 4]) },
         near: random.pick(&[0, 30, 70, 90, 100]),
         stay: random.pick(&[0, 40, 70]),
         empty: random.pick(&[0, 0, 10, 30]),
@@ -327,6 +327,15 @@ fn misname(random: &mut Random, script: &mut Script, rows: &[Row]) {
     script.say(&format!("poke {} {word:08X}", rows[row].at + 1));
 }
 
+/// Writes another count into a row's head word: any of five bits, for its candidates or for its predecessor's.
+fn recount(random: &mut Random, script: &mut Script, rows: &[Row]) {
+    let at = random.pick(rows).at;
+    let head = script.session.journal()[at as usize];
+    let place = random.pick(&[0, 5]);
+    let poked = head & !(31 << place) | random.below(32) << place;
+    script.say(&format!("poke {at} {poked:08X}"));
+}
+
 /// Changes words of the journal, most often one bit.
 fn damage(random: &mut Random, script: &mut Script) {
     for _ in 0..random.between(1, 3) {
@@ -348,10 +357,10 @@ fn damage(random: &mut Random, script: &mut Script) {
 /// Changes the journal and asks again.
 fn hurt(random: &mut Random, script: &mut Script, habits: &Habits) {
     let rows = script.rows();
-    if !rows.is_empty() && random.chance(30) {
-        misname(random, script, &rows);
-    } else {
-        damage(random, script);
+    match random.below(10) {
+        0..=2 if !rows.is_empty() => misname(random, script, &rows),
+        3 if !rows.is_empty() => recount(random, script, &rows),
+        _ => damage(random, script),
     }
     let next = fix(random, habits, script);
     ask(random, script, habits);
