@@ -194,8 +194,9 @@ fn checks_by_turns(journal: &mut [u32], plain: Times) {
         micros[turn % 2].push(began.elapsed().as_secs_f64() * 1e6);
     }
     let [now, before] = micros.map(Times::of);
-    print_row("check 7 of the checkout before, beside the plain sum", "", before, plain);
-    print_row("check 7, beside that of the checkout before, by turns", "", now, before);
+    print_row("check 7 of the checkout before, by turns with this one's, beside the plain sum", "", before, plain);
+    print_row("check 7, by turns with it, beside the plain sum", "", now, plain);
+    print_row("check 7, beside that of the checkout before", "", now, before);
 }
 
 fn close_and_build(slices: &Slices, journal: &[u32]) -> Times {

@@ -322,13 +322,19 @@ pub fn record_lengths() -> [u16; 289]
     RECORD_LENGTHS
 }
 
+fn word_count(x: u16) -> usize
+    ensures { λ r. ⌜ r ≡ x ⌝ }
+{
+    x as usize
+}
+
 // The table's entry for c candidates with p predecessor candidates.
 pub fn length_in(lengths: &[u16; 289], c: usize, p: usize) -> usize
     requires { ⌜ LengthTable (now lengths) ⌝ }
     requires { ⌜ (c ≤ candidateLimit) × (p ≤ candidateLimit) ⌝ }
     ensures { λ r. ⌜ r ≡ recordLength c p ⌝ ∗ ⌜ r ≤ 628 ⌝ }
 {
-    lengths[17 * c + p] as usize
+    word_count(lengths[17 * c + p])
 }
 
 // The record length of c candidates with p predecessor candidates.

@@ -1,41 +1,40 @@
 -- `journal::lengths::length_in` meets its contract. Assumes nothing.
-use Prim.Native.Nat.{_+_, _*_, _≤_}
-use native.Mathlib.Omega.{arith}
+use mathlib.Core.Path.{_∙_}
 use borrow.Author.Needs.{needs}
-use mathlib.Core.Path.{_≡_}
-use lib.ListN.{getD}
-use Rattle.journal.specs.Record.{recordLength}
 use Rattle.journal.specs.inner.LengthTable.{LengthTable}
 use Rattle.journal.proofs.LengthTable.{length-small}
 use Rattle.journal.proofs.lengths.length_in.Statement.{statement}
 use Rattle.journal.proofs.lengths.length_in.Tie as tie
 
-entry : (s : tie.Start) → getD (s .args .lengths .now) (17 * s .args .c + s .args .p) 0 ≡ recordLength (s .args .c) (s .args .p)
-unfolding LengthTable
-entry s = s .pre .0 (s .args .c) (s .args .p) (s .pre .1 .0) (s .pre .1 .1)
+mul-word-count : tie.Need-mul-word-count
+mul-word-count c = search needs
 
-small : (s : tie.Start) → recordLength (s .args .c) (s .args .p) ≤ 628
-small s = length-small (s .pre .1 .0) (s .pre .1 .1)
+add-word-count : tie.Need-add-word-count
+add-word-count c = search needs
 
-mul-result : tie.Need-mul-result
-mul-result c = search needs
+mul-word-count-2 : tie.Need-mul-word-count-2
+mul-word-count-2 c = search needs
 
-add-result : tie.Need-add-result
-add-result c = search needs
+element-copy-out-word-count : tie.Need-element-copy-out-word-count
+element-copy-out-word-count c = search needs
 
-mul-result-2 : tie.Need-mul-result-2
-mul-result-2 c = search needs
-
-element-copy-out-result : tie.Need-element-copy-out-result
-element-copy-out-result c = search needs
-
-cast-result : tie.Need-cast-result
-cast-result c = omega (arith, entry (c .before), small (c .before))
+word-count-requires : tie.Need-word-count-requires
+word-count-requires c κs = search needs
 
 returns : tie.Need-returns
-returns c = (entry (c .before), rw (entry (c .before)) (small (c .before)))
+unfolding LengthTable
+returns c =
+    let s = c .before .before in
+    let entry = c .word-count .ensures ∙ s .pre .0 (s .args .c) (s .args .p) (s .pre .1 .0) (s .pre .1 .1) in
+    (entry, rw entry (length-small (s .pre .1 .0) (s .pre .1 .1)))
 
 pub length-in-spec : {M : Type 1} → statement M
 length-in-spec =
     tie.close
-    (tie.spec mul-result add-result mul-result-2 element-copy-out-result cast-result returns)
+    (tie.spec
+    mul-word-count
+    add-word-count
+    mul-word-count-2
+    element-copy-out-word-count
+    word-count-requires
+    returns)
