@@ -296,10 +296,11 @@ static void predecessors(void) {
     expect("the last row's predecessor", lent.journal[LAST + 1], 0x70000000 + SECOND);
 }
 
-/* A row of c candidates on a predecessor of p, 0 to 16 each: how long its record is, and that no less room is enough. */
+/* A row of c candidates on a predecessor of p, each from 0 to the most: how long its record is, and that no less room is enough. */
 static void record_words(void) {
-    for (uint32_t pair = 0; pair < 17 * 17; pair++) {
-        uint32_t c = pair / 17, p = pair % 17, used = 1 + BOX_RECORD_WORDS(p, 0), end = used + BOX_RECORD_WORDS(c, p);
+    enum { COUNTS = BOX_MAX_CANDIDATES + 1 };
+    for (uint32_t pair = 0; pair < COUNTS * COUNTS; pair++) {
+        uint32_t c = pair / COUNTS, p = pair % COUNTS, used = 1 + BOX_RECORD_WORDS(p, 0), end = used + BOX_RECORD_WORDS(c, p);
         start();
         expect("the predecessor", feed(p, 0), BOX_DONE);
         expect("a word too few for a record", feed_into(end - 1, c, c * p), BOX_REFUSED_ROOM);

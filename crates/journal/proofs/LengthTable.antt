@@ -14,7 +14,7 @@ use Rattle.journal.specs.Ranges.{candidateLimit}
 use Rattle.journal.specs.Record.{recordLength}
 use Rattle.journal.specs.inner.LengthTable.{LengthTable}
 
--- entry k is in row k / 17, at k % 17
+-- entry k has the length of k / 17 candidates with k % 17 predecessor candidates
 abbrev pub entryRight : List ℕ → ℕ → Bool
 entryRight t k = eqb (getD t k 0) (recordLength (k / 17) (k % 17))
 
@@ -26,6 +26,7 @@ table-rule t h c p few few-before =
     let column : k % 17 ≡ p = omega arith in
     rw (row, column) at (eqb→eq (getD t k 0) (recordLength (k / 17) (k % 17)) (taken (every-at 289 (entryRight t) h k (omega arith))))
 
+-- the longest record
 pub length-small : {c p : ℕ} → c ≤ candidateLimit → p ≤ candidateLimit → recordLength c p ≤ 628
 unfolding recordLength
 length-small few few-before = omega (arith, mul-le-mul few few-before)

@@ -123,7 +123,7 @@ module _ (rs : List Row) (ws : List ℕ) where
       let split = starts-split (recordOn rs (readRow ws)) ws (and-l (starts (recordOn rs (readRow ws)) ws) (rowOk (sizeOf (predecessor rs)) (length rs) (readRow ws)) t) in
       (record-least (predecessorPlace rs) (readRow ws), omega (arith, simp length-append at (ap length split)))
 
-  -- its row has as many candidates as a fix may have, at most
+  -- its row is within the limit of candidates
   few : T (recordOk rs (readRow ws) ws) → rowSize (readRow ws) ≤ candidateLimit
   few t =
       let obeys = and-r (starts (recordOn rs (readRow ws)) ws) (rowOk (sizeOf (predecessor rs)) (length rs) (readRow ws)) t in

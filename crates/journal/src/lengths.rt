@@ -315,7 +315,7 @@ const RECORD_LENGTHS: [u16; 289] = [
     628,
 ];
 
-// The table as a value: a function that reads it for many records makes it once and lends it.
+// The table as a value. A constant array is stored anew wherever it is named: who reads it for many records makes it once and lends it.
 pub fn record_lengths() -> [u16; 289]
     ensures { λ r. ⌜ LengthTable r ⌝ }
 {

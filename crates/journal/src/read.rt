@@ -162,7 +162,8 @@ fn body_reads(words: &[u32], place: usize, c: usize, p: usize, end: usize, row: 
     words[last] == 0x4000_0000 + end as u32
 }
 
-// The record at the head of the words, as this row on a predecessor of q candidates, whose record starts at `place`.
+// The record at the head of the words, as this row on a predecessor of q candidates, whose record starts at `place`. Its length is that of
+// the lent table.
 pub fn read_row(words: &[u32], lengths: &[u16; 289], place: usize, q: usize, row: usize) -> Record
     requires { ⌜ LengthTable (now lengths) ⌝ }
     requires { ⌜ (q ≤ candidateLimit) × (row < 65536) × (place < 268435456) ⌝ }
