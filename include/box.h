@@ -12,6 +12,12 @@
    writes may not overlap anything else that it is handed. Beyond that nothing is asked: every call ends, whatever
    numbers and words it is handed.
 
+   Distances. A fix comes with a distance for each pair of a candidate of its predecessor and one of its own: that
+   between the two points on the tracks onto which the two fixes were projected, in metres along a great circle. Box is
+   handed no coordinates, so the host keeps the points of each row that it fed until the row is struck; before a fix it
+   asks box_predecessor for the row to count from, and hands over distances[j * count + i] for candidate j of that row
+   and its own candidate i of `count`.
+
    Memory. No call allocates, and nothing is kept between calls: what Box knows stands in the journal, words that the
    host owns, and may copy, store and hand back. Threads may call at once, each on a journal of its own. No call uses
    more stack than BOX_STACK_BYTES; README.md has the table. Floats are IEEE 754 binary64: the processor must round to
@@ -45,7 +51,7 @@ enum box_status {
     BOX_REFUSED_ROW = 13,             /* more rows to strike than stand, or a row that does not stand */
     BOX_REFUSED_SEGMENT = 14,         /* intrinsic outside 0 to 1, first row after last, or row above 65,534 */
     BOX_REFUSED_BUFFER = 15,          /* the list is longer than a buffer; too few words for decisions */
-    BOX_NONE = 16                     /* there is no route, or no path */
+    BOX_NONE = 255                    /* there is no route, no path, or no predecessor; never a refusal's number */
 };
 
 /* Limits. NaN is outside every range. */
@@ -136,11 +142,16 @@ uint32_t box_triple_is_consistent(BOX_NETWORK_PARAMETERS, uint32_t a, uint32_t b
 /* An empty journal, whatever the words were: word 0. Refuses with 12, an empty slice. */
 uint32_t box_open(uint32_t *journal, size_t journal_words);
 
+/* The predecessor of the next fix: *row, the latest with a finite score, and how many *candidates it has. A fix of n
+   candidates that comes with n distances for each of them is never refused for their number. BOX_NONE where no row has a
+   finite score: a fix then comes with none. Refuses with 7. */
+uint32_t box_predecessor(const uint32_t *journal, size_t journal_words, uint32_t *row, size_t *candidates);
+
 /* One more row: its record in the words past the used ones, then word 0. A candidate is an element, an intrinsic (0 to
    1 from side 0, sign bit clear), near an end (1) or not (0), and the log of its emission. A fix may have none: a row
    stands for it, too. `distances` has one for each pair of a candidate of the predecessor (outer) and an own one
-   (inner); the predecessor is the latest row with a finite score. Without one, or without candidates, there are none.
-   Refuses with 1 to 12. */
+   (inner); box_predecessor tells which row that is. Without one, or without candidates, there are none. Refuses with 1
+   to 12. */
 uint32_t box_feed(BOX_NETWORK_PARAMETERS, double beta, double scale, uint32_t *journal, size_t journal_words,
     const uint32_t *elements, size_t element_count, const double *intrinsics, size_t intrinsic_count,
     const uint32_t *near_flags, size_t near_count, const double *raw_logs, size_t raw_log_count,
@@ -161,6 +172,38 @@ uint32_t box_read_row(const uint32_t *journal, size_t journal_words, uint32_t ro
     uint32_t *near_flags, size_t near_room, double *raw_logs, size_t raw_log_room,
     uint32_t *parents, size_t parent_room, double *scores, size_t score_room,
     double *distances, size_t distance_room, size_t *candidates, size_t *predecessor_candidates);
+
+/* A row with room for all that box_read_row answers: `count` entries in six fields, and count times predecessor_count
+   distances. */
+struct box_row {
+    size_t count;
+    size_t predecessor_count;
+    uint32_t elements[BOX_MAX_CANDIDATES];
+    double intrinsics[BOX_MAX_CANDIDATES];
+    uint32_t near_flags[BOX_MAX_CANDIDATES];
+    double raw_logs[BOX_MAX_CANDIDATES];
+    uint32_t parents[BOX_MAX_CANDIDATES];
+    double scores[BOX_MAX_CANDIDATES];
+    double distances[BOX_MAX_STEPS];
+};
+
+/* g++ -Wshadow takes a function with a structure's name for a mistake. */
+#if defined(__GNUC__) && defined(__cplusplus)
+#pragma GCC diagnostic push
+#pragma GCC diagnostic ignored "-Wshadow"
+#endif
+
+/* box_read_row into a `struct box_row`, where every row fits. Refuses with 7, 13. */
+static inline uint32_t box_row(const uint32_t *journal, size_t journal_words, uint32_t row, struct box_row *out) {
+    return box_read_row(journal, journal_words, row, out->elements, BOX_MAX_CANDIDATES, out->intrinsics,
+        BOX_MAX_CANDIDATES, out->near_flags, BOX_MAX_CANDIDATES, out->raw_logs, BOX_MAX_CANDIDATES, out->parents,
+        BOX_MAX_CANDIDATES, out->scores, BOX_MAX_CANDIDATES, out->distances, BOX_MAX_STEPS, &out->count,
+        &out->predecessor_count);
+}
+
+#if defined(__GNUC__) && defined(__cplusplus)
+#pragma GCC diagnostic pop
+#endif
 
 /* The possible steps into a row: *count entries of predecessor row, its candidate, the row, its candidate (outer) and
    the step's score, BOX_MIN_STEP to 0. Refuses with 1 to 7, 9, 13, 15. */

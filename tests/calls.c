@@ -1,6 +1,7 @@
 /* What the calls answer through the header. `calls GROUP` says what differs, and exits with 1 if anything does:
    refusals, each number from a smallest call, which changes nothing; limits, at them and past them; empty, slices without
-   entries; words, the journal of document 01's one fix, the predecessors that rows name, and every length of a record. */
+   entries; words, the journal of document 01's one fix, the predecessors that rows name, and every length of a record;
+   rows, the predecessor of the next fix beside the rows read back, and rows as structures. */
 #include "box.h"
 
 #include <math.h>
@@ -30,9 +31,10 @@ enum { ROOM = 8,
     WORDS = 1 + BOX_RECORD_WORDS(BOX_MAX_CANDIDATES, 0) + BOX_RECORD_WORDS(BOX_MAX_CANDIDATES, BOX_MAX_CANDIDATES) };
 
 static struct lent {
-    uint32_t journal[WORDS], numbers[5][BOX_MAX_STEPS], decisions[6 * ROOM], consistent;
+    uint32_t journal[WORDS], numbers[5][BOX_MAX_STEPS], decisions[6 * ROOM], consistent, predecessor;
     double floats[4][BOX_MAX_STEPS], value;
     struct box_segment segments[ROOM];
+    struct box_row row;
     size_t count, second;
 } lent;
 
@@ -64,6 +66,8 @@ static uint32_t feed_into(size_t words, size_t candidates, size_t pairs) {
 
 static uint32_t feed(size_t candidates, size_t pairs) { return feed_into(WORDS, candidates, pairs); }
 
+static uint32_t predecessor(void) { return box_predecessor(lent.journal, WORDS, &lent.predecessor, &lent.count); }
+
 static uint32_t strike(uint32_t rows) { return box_strike(lent.journal, WORDS, rows); }
 
 static uint32_t close_into(size_t room) {
@@ -74,6 +78,8 @@ static uint32_t read_row(uint32_t row, size_t room) {
     return box_read_row(lent.journal, WORDS, row, lent.numbers[0], room, lent.floats[0], room, lent.numbers[1], room,
         lent.floats[1], room, lent.numbers[2], room, lent.floats[2], room, lent.floats[3], room, &lent.count, &lent.second);
 }
+
+static uint32_t row(uint32_t number) { return box_row(lent.journal, WORDS, number, &lent.row); }
 
 static uint32_t list_steps(uint32_t row, size_t room) {
     return box_list_steps(BOX_NETWORK(network), beta, scale, lent.journal, WORDS, row, lent.numbers[0], room,
@@ -150,9 +156,11 @@ static void refusals(void) {
     REFUSED(scale = 0, feed(1, 0), BOX_REFUSED_SETTING);
     REFUSED(beta = NAN, list_steps(0, 8), BOX_REFUSED_SETTING);
     REFUSED(lent.journal[0] = 0, feed(1, 0), BOX_REFUSED_JOURNAL);
+    REFUSED(lent.journal[0] = 0, predecessor(), BOX_REFUSED_JOURNAL);
     REFUSED(lent.journal[0] = 0, strike(0), BOX_REFUSED_JOURNAL);
     REFUSED(lent.journal[0] = 0, close_into(8), BOX_REFUSED_JOURNAL);
     REFUSED(lent.journal[0] = 0, read_row(0, 8), BOX_REFUSED_JOURNAL);
+    REFUSED(lent.journal[0] = 0, row(0), BOX_REFUSED_JOURNAL);
     REFUSED(lent.journal[0] = 0, list_steps(0, 8), BOX_REFUSED_JOURNAL);
     REFUSED(lent.journal[0] = 0, build_into(ROOM), BOX_REFUSED_JOURNAL);
     /* a wrong predecessor: of a row without one, and of an empty row */
@@ -169,6 +177,7 @@ static void refusals(void) {
     REFUSED(AS_IT_IS, box_open(lent.journal, 0), BOX_REFUSED_ROOM);
     REFUSED(AS_IT_IS, strike(1), BOX_REFUSED_ROW);
     REFUSED(AS_IT_IS, read_row(0, 8), BOX_REFUSED_ROW);
+    REFUSED(feed(1, 0), row(1), BOX_REFUSED_ROW);
     REFUSED(AS_IT_IS, list_steps(0, 8), BOX_REFUSED_ROW);
     REFUSED(lent.segments[0].first_row = 1, collapse(1, 6), BOX_REFUSED_SEGMENT);
     REFUSED(lent.segments[0].end_intrinsic = 1.5, collapse(1, 6), BOX_REFUSED_SEGMENT);
@@ -186,6 +195,9 @@ static void refusals(void) {
     REFUSED(AS_IT_IS, distance(3, 0), BOX_NONE);
     REFUSED(AS_IT_IS, route_into(3, 8), BOX_NONE);
     REFUSED(AS_IT_IS, close_into(8), BOX_NONE);
+    REFUSED(AS_IT_IS, predecessor(), BOX_NONE);
+    REFUSED(feed(0, 0), predecessor(), BOX_NONE);
+    REFUSED((raw_logs[0] = -INFINITY, feed(1, 0)), predecessor(), BOX_NONE);
     constant_lists();
 }
 
@@ -257,7 +269,7 @@ static void limits(void) {
 /* ---- empty */
 
 static void empty(void) {
-    uint32_t word;
+    uint32_t word, row_number = 9;
     size_t count = 9, second = 9;
     double value = 9;
     start();
@@ -269,7 +281,9 @@ static void empty(void) {
     expect("feed", box_feed(NOTHING, 1, 1, &word, 1, NULL, 0, NULL, 0, NULL, 0, NULL, 0, NULL, 0), BOX_REFUSED_ROOM);
     expect("close", box_close(&word, 1, NULL, 0, NULL, 0, &value, &count), BOX_NONE);
     expect("close", box_close(NULL, 0, NULL, 0, NULL, 0, &value, &count), BOX_REFUSED_JOURNAL);
-    expect("values kept", value == 9 && count == 9, 1);
+    expect("predecessor", box_predecessor(&word, 1, &row_number, &count), BOX_NONE);
+    expect("predecessor", box_predecessor(NULL, 0, &row_number, &count), BOX_REFUSED_JOURNAL);
+    expect("values kept", value == 9 && count == 9 && row_number == 9, 1);
     expect("build", box_build_path(NOTHING, &word, 1, NULL, 0, &count), BOX_DONE);
     expect("no segments", count == 0, 1);
     expect("collapse", box_remove_oscillations(NULL, 0, NULL, 0, &count, &second), BOX_DONE);
@@ -323,14 +337,94 @@ static void words(void) {
     record_words();
 }
 
+/* ---- rows */
+
+/* The predecessor by reading rows back from the last, of so many, until one has a finite score. */
+static uint32_t read_back(uint32_t rows) {
+    while (rows-- > 0) {
+        expect("a row", row(rows), BOX_DONE);
+        for (size_t i = 0; i < lent.row.count; i++) {
+            if (isfinite(lent.row.scores[i])) return rows;
+        }
+    }
+    return BOX_MAX_ROWS;
+}
+
+/* Of so many rows the call tells the one that is found by reading back, and how many distances a fix has. */
+static void counted_from(uint32_t rows) {
+    uint32_t found = read_back(rows), answer = predecessor();
+    size_t candidates = found == BOX_MAX_ROWS ? 0 : lent.row.count;
+    expect("whether there is a predecessor", answer, found == BOX_MAX_ROWS ? BOX_NONE : BOX_DONE);
+    if (answer == BOX_DONE) {
+        expect("its row", lent.predecessor, found);
+        expect("its candidates", lent.count == candidates, 1);
+    }
+    expect("a distance too many", feed(3, 3 * candidates + 1), BOX_REFUSED_DISTANCES);
+    if (candidates > 0) expect("a distance too few", feed(3, 3 * candidates - 1), BOX_REFUSED_DISTANCES);
+    expect("as many distances as it says", feed(3, 3 * candidates), BOX_DONE);
+    expect("that row struck", strike(1), BOX_DONE);
+}
+
+/* Rows with and without candidates, one of them without a finite score, fed and then struck one by one. */
+static void next_rows(void) {
+    static const struct { size_t candidates; double raw_log; } fed[] = {
+        {0, 0}, {2, -INFINITY}, {4, -1}, {0, 0}, {0, 0}, {1, -1}, {2, -1}, {0, 0},
+    };
+    const uint32_t rows = sizeof fed / sizeof fed[0];
+    size_t before = 0;
+    start();
+    for (uint32_t i = 0; i < rows; i++) {
+        raw_logs[0] = -1, counted_from(i);
+        for (size_t k = 0; k < fed[i].candidates; k++) raw_logs[k] = fed[i].raw_log;
+        expect("a row", feed(fed[i].candidates, fed[i].candidates * before), BOX_DONE);
+        if (fed[i].candidates > 0 && isfinite(fed[i].raw_log)) before = fed[i].candidates;
+    }
+    for (int k = 0; k < BOX_MAX_CANDIDATES; k++) raw_logs[k] = -1;
+    for (uint32_t i = rows; i > 0; i--) {
+        counted_from(i);
+        expect("a row struck", strike(1), BOX_DONE);
+    }
+    counted_from(0);
+}
+
+/* A row as a structure is that of the call with its buffers, and the entries past it stay. */
+static void row_structure(uint32_t number, size_t candidates, size_t before) {
+    struct box_row read, kept;
+    memset(&read, 0xEE, sizeof read), memset(&lent.row, 0xEE, sizeof lent.row);
+    expect("a row", box_read_row(lent.journal, WORDS, number, read.elements, BOX_MAX_CANDIDATES, read.intrinsics,
+        BOX_MAX_CANDIDATES, read.near_flags, BOX_MAX_CANDIDATES, read.raw_logs, BOX_MAX_CANDIDATES, read.parents,
+        BOX_MAX_CANDIDATES, read.scores, BOX_MAX_CANDIDATES, read.distances, BOX_MAX_STEPS, &read.count,
+        &read.predecessor_count), BOX_DONE);
+    expect("a row as a structure", row(number), BOX_DONE);
+    expect("its counts", lent.row.count == candidates && lent.row.predecessor_count == before, 1);
+    expect("its fields", memcmp(&lent.row, &read, sizeof read) != 0, 0);
+    kept = read;
+    expect("a row that does not stand", row(number + 2), BOX_REFUSED_ROW);
+    expect("the structure is kept", memcmp(&lent.row, &kept, sizeof kept) != 0, 0);
+}
+
+static void rows(void) {
+    next_rows();
+    start();
+    for (uint32_t i = 0; i < BOX_MAX_CANDIDATES; i++) {
+        elements[i] = i % 3, intrinsics[i] = i / 16.0, near_flags[i] = i % 2, raw_logs[i] = -1.0 - i;
+    }
+    for (uint32_t i = 0; i < BOX_MAX_STEPS; i++) distances[i] = i;
+    expect("rows", (feed(BOX_MAX_CANDIDATES, 0), feed(BOX_MAX_CANDIDATES, BOX_MAX_STEPS)), BOX_DONE);
+    row_structure(0, BOX_MAX_CANDIDATES, 0);
+    row_structure(1, BOX_MAX_CANDIDATES, BOX_MAX_CANDIDATES);
+    expect("row 1 struck", (strike(1), feed(3, 3 * BOX_MAX_CANDIDATES)), BOX_DONE);
+    row_structure(1, 3, BOX_MAX_CANDIDATES);
+}
+
 int main(int count, char **arguments) {
     static const struct { const char *name; void (*run)(void); } groups[] = {
-        {"refusals", refusals}, {"limits", limits}, {"empty", empty}, {"words", words},
+        {"refusals", refusals}, {"limits", limits}, {"empty", empty}, {"words", words}, {"rows", rows},
     };
     size_t run = 0;
     for (size_t i = 0; i < sizeof groups / sizeof groups[0]; i++) {
         if (count == 2 && strcmp(arguments[1], groups[i].name) == 0) groups[i].run(), run++;
     }
-    if (run != 1) printf("usage: calls refusals|limits|empty|words\n");
+    if (run != 1) printf("usage: calls refusals|limits|empty|words|rows\n");
     return run != 1 || failures != 0;
 }

@@ -13,7 +13,13 @@ HOLDS(first_row, offsetof(struct box_segment, first_row) == 24);
 HOLDS(last_row, offsetof(struct box_segment, last_row) == 28);
 
 uint32_t check(struct box_network network);
+uint32_t read_row(const uint32_t *journal, size_t journal_words, struct box_row *row);
 
 uint32_t check(struct box_network network) {
     return box_check_network(BOX_NETWORK(network));
+}
+
+/* A structure and a function of one name. */
+uint32_t read_row(const uint32_t *journal, size_t journal_words, struct box_row *row) {
+    return box_row(journal, journal_words, 0, row);
 }

@@ -36,6 +36,8 @@ static void feed(void) {
         distances, pairs);
 }
 
+static void predecessor(void) { status = box_predecessor(journal, WORDS, numbers[0], &count); }
+
 static void strike(void) { status = box_strike(journal, WORDS, 0); }
 
 static void close_journal(void) { status = box_close(journal, WORDS, numbers[0], S, numbers[1], S, &value, &count); }
@@ -96,7 +98,8 @@ static void prepare(void) {
 int main(void) {
     static const struct { const char *name; void (*call)(void); } calls[] = {
         {"box_check_network", check}, {"box_shortest_path_distance", distance}, {"box_shortest_path_route", route},
-        {"box_triple_is_consistent", triple}, {"box_open", open_journal}, {"box_feed", feed}, {"box_strike", strike},
+        {"box_triple_is_consistent", triple}, {"box_open", open_journal}, {"box_feed", feed}, {"box_predecessor", predecessor},
+        {"box_strike", strike},
         {"box_close", close_journal}, {"box_read_row", read_row}, {"box_list_steps", list_steps}, {"box_build_path", build},
         {"box_remove_oscillations", collapse},
     };

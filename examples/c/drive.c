@@ -3,7 +3,6 @@
    track; collapsing takes them out again. */
 #include "box.h"
 
-#include <math.h>
 #include <stdio.h>
 #include <stdlib.h>
 
@@ -92,40 +91,21 @@ static void expect_done(const char *what, uint32_t status) {
     }
 }
 
-struct row {
-    size_t count, predecessor_count;
-    uint32_t elements[BOX_MAX_CANDIDATES], near_flags[BOX_MAX_CANDIDATES], parents[BOX_MAX_CANDIDATES];
-    double intrinsics[BOX_MAX_CANDIDATES], raw_logs[BOX_MAX_CANDIDATES], scores[BOX_MAX_CANDIDATES];
-    double distances[BOX_MAX_STEPS];
-};
-
-static void read_row(const struct host *host, uint32_t number, struct row *row) {
-    expect_done("read", box_read_row(host->journal, WORDS, number, row->elements, BOX_MAX_CANDIDATES,
-        row->intrinsics, BOX_MAX_CANDIDATES, row->near_flags, BOX_MAX_CANDIDATES, row->raw_logs, BOX_MAX_CANDIDATES,
-        row->parents, BOX_MAX_CANDIDATES, row->scores, BOX_MAX_CANDIDATES, row->distances, BOX_MAX_STEPS,
-        &row->count, &row->predecessor_count));
+static void read_row(const struct host *host, uint32_t number, struct box_row *row) {
+    expect_done("read", box_row(host->journal, WORDS, number, row));
 }
 
-/* How many candidates the latest row with a finite score has, and where it was fed; 0 where there is no such row. */
-static size_t predecessor(const struct host *host, double *metres) {
-    struct row row;
-    for (uint32_t number = host->rows; number > 0; number--) {
-        read_row(host, number - 1, &row);
-        for (size_t i = 0; i < row.count; i++) {
-            if (isfinite(row.scores[i])) {
-                *metres = host->metres[number - 1];
-                return row.count;
-            }
-        }
-    }
-    return 0;
-}
-
+/* A distance for each pair of a candidate of the predecessor and one of the fix: the metres driven since then, which is
+   near enough to all of them on this straight line. */
 static void feed(struct host *host, const struct fix *fixes, size_t count) {
     for (const struct fix *fix = fixes; fix < fixes + count; fix++) {
-        double start = 0, distances[4];
-        size_t pairs = fix->count == 0 ? 0 : fix->count * predecessor(host, &start);
-        for (size_t i = 0; i < pairs; i++) distances[i] = fix->metres - start;
+        double distances[4];
+        uint32_t row = 0;
+        size_t candidates = 0; /* stays 0 where there is no predecessor */
+        uint32_t answer = box_predecessor(host->journal, WORDS, &row, &candidates);
+        if (answer != BOX_NONE) expect_done("predecessor", answer);
+        size_t pairs = fix->count * candidates;
+        for (size_t i = 0; i < pairs; i++) distances[i] = fix->metres - host->metres[row];
         expect_done("feed", box_feed(BOX_NETWORK(network), beta, scale, host->journal, WORDS, fix->elements, fix->count,
             fix->intrinsics, fix->count, fix->near_flags, fix->count, fix->raw_logs, fix->count, distances, pairs));
         host->metres[host->rows++] = fix->metres;
@@ -154,7 +134,7 @@ static void show_steps(const struct host *host, uint32_t number) {
     uint32_t predecessor_rows[BOX_MAX_STEPS], predecessors[BOX_MAX_STEPS], rows[BOX_MAX_STEPS], candidates[BOX_MAX_STEPS];
     double steps[BOX_MAX_STEPS];
     size_t count;
-    struct row before, row;
+    struct box_row before, row;
     expect_done("steps", box_list_steps(BOX_NETWORK(network), beta, scale, host->journal, WORDS, number, predecessor_rows,
         BOX_MAX_STEPS, predecessors, BOX_MAX_STEPS, rows, BOX_MAX_STEPS, candidates, BOX_MAX_STEPS, steps, BOX_MAX_STEPS, &count));
     for (size_t i = 0; i < count; i++) {
@@ -169,7 +149,7 @@ static void show_path(const struct host *host) {
     uint32_t rows[ROWS], candidates[ROWS];
     double score;
     size_t count;
-    struct row row;
+    struct box_row row;
     expect_done("close", box_close(host->journal, WORDS, rows, ROWS, candidates, ROWS, &score, &count));
     printf("  best path, score %.3f, of %u rows:\n", score, (unsigned)host->rows);
     for (size_t i = 0; i < count; i++) {

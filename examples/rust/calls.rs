@@ -43,6 +43,7 @@ on_network! {
 
 extern "C" {
     pub fn box_open(journal: *mut u32, journal_words: usize) -> u32;
+    pub fn box_predecessor(journal: *const u32, journal_words: usize, row: *mut u32, candidates: *mut usize) -> u32;
     pub fn box_strike(journal: *mut u32, journal_words: usize, rows: u32) -> u32;
     pub fn box_close(
         journal: *const u32, journal_words: usize, rows: *mut u32, row_room: usize, candidates: *mut u32, candidate_room: usize,

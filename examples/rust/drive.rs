@@ -1,5 +1,5 @@
 //! The drive of `examples/c/drive.c` through the safe interface: it prints the same text.
-use matcher::{remove_oscillations, Decision, Fix, Journal, Network, Refusal, Row, Segment, Settings, Side};
+use matcher::{remove_oscillations, Decision, Fix, Journal, Network, Refusal, Segment, Settings, Side};
 
 // ---- The network. Every element runs from west (side 0) to east (side 1).
 //
@@ -67,21 +67,12 @@ struct Host<'a> {
 }
 
 impl Host<'_> {
-    /// The latest row with a finite score, and where it was fed.
-    fn predecessor(&self) -> Result<Option<(Row, f64)>, Refusal> {
-        for (number, metres) in self.metres.iter().enumerate().rev() {
-            let row = self.journal.row(number as u32)?;
-            if row.is_scoring() {
-                return Ok(Some((row, *metres)));
-            }
-        }
-        Ok(None)
-    }
-
+    /// A distance for each pair of a candidate of the predecessor and one of the fix: the metres driven since then, which is
+    /// near enough to all of them on this straight line.
     fn feed(&mut self, fixes: &[(f64, Candidates)]) -> Result<(), Refusal> {
         for (metres, candidates) in fixes {
-            let distances = match self.predecessor()? {
-                Some((row, start)) => vec![metres - start; row.count * candidates.len()],
+            let distances = match self.journal.predecessor()? {
+                Some(p) => vec![metres - self.metres[p.row as usize]; p.candidates * candidates.len()],
                 None => Vec::new(),
             };
             let fix = Fix {

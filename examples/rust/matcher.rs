@@ -1,4 +1,4 @@
-//! Box for Rust: its twelve calls on slices, safe to call with any values. `include/box.h` says more of each of them.
+//! Box for Rust: its thirteen calls on slices, safe to call with any values. `include/box.h` says more of each of them.
 //!
 //! Nothing is allocated and no standard library is needed. A refused call changes no lent memory.
 #![no_std]
@@ -67,11 +67,11 @@ const REFUSALS: [Refusal; 15] = [
     Refusal::Buffer,
 ];
 
-/// Whether there is an answer, by a call's status: 0 done, 16 none, otherwise a refusal's number.
+/// Whether there is an answer, by a call's status: 0 done, 255 none, otherwise a refusal's number.
 fn found(status: u32) -> Result<bool, Refusal> {
     match status {
         0 => Ok(true),
-        16 => Ok(false),
+        255 => Ok(false),
         number => Err(REFUSALS[number as usize - 1]),
     }
 }
@@ -120,8 +120,17 @@ pub struct Settings {
     pub scale: f64,
 }
 
+/// The row that the next fix's distances count from: the latest one with a finite score.
+#[derive(Clone, Copy, Debug, PartialEq, Eq)]
+#[allow(missing_docs)]
+pub struct Predecessor {
+    pub row: u32,
+    /// How many candidates it has.
+    pub candidates: usize,
+}
+
 /// A position fix: its candidates, field by field, and a distance for each pair of a candidate of the predecessor (outer)
-/// and an own one (inner).
+/// and an own one (inner). `Journal::predecessor` tells which row that is; without one there are no distances.
 #[derive(Clone, Copy, Default)]
 #[allow(missing_docs)]
 pub struct Fix<'a> {
@@ -151,13 +160,6 @@ pub struct Row {
     pub parents: [u32; MAX_CANDIDATES],
     pub scores: [f64; MAX_CANDIDATES],
     pub distances: [f64; MAX_STEPS],
-}
-
-impl Row {
-    /// Whether one of its scores is finite.
-    pub fn is_scoring(&self) -> bool {
-        self.scores[..self.count].iter().any(|score| score.is_finite())
-    }
 }
 
 /// The best path: pairs of a row and the number of its candidate, in row order.
@@ -282,6 +284,15 @@ impl<'a> Journal<'a> {
     pub fn used(&self) -> &[u32] {
         let used = self.words.first().map_or(0, |word| *word as usize & 0xFFF_FFFF);
         &self.words[..used.min(self.words.len())]
+    }
+
+    /// The row that the next fix's distances count from. A fix of n candidates comes with n distances for each candidate of
+    /// that row, without a row with none, and is then never refused for their number.
+    pub fn predecessor(&self) -> Result<Option<Predecessor>, Refusal> {
+        let (mut row, mut candidates) = (0, 0);
+        // SAFETY: as at `on_network`.
+        let status = unsafe { calls::box_predecessor(self.words.as_ptr(), self.words.len(), &mut row, &mut candidates) };
+        Ok(found(status)?.then_some(Predecessor { row, candidates }))
     }
 
     /// One more row.

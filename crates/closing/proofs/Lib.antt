@@ -5,4 +5,5 @@ pub mod Steps
 pub mod Storing
 pub mod Buffers
 pub mod Rows
+pub mod Predecessor
 pub mod Closing

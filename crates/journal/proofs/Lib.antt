@@ -13,4 +13,5 @@ pub mod Records
 pub mod RecordRead
 pub mod Walk
 pub mod Ends
+pub mod Preceding
 pub mod Places

@@ -1,15 +1,17 @@
--- Opening and striking as functions on a slice's words: what the call answers, and the words that it leaves.
+-- Opening, striking and asking for the predecessor as functions on a slice's words: what the call answers, and the words that it leaves.
 use Prim.Native.Nat.{ℕ, suc}
 use mathlib.Core.Bool.{Bool, cond}
 use mathlib.Core.List.{List, [], _∷_}
 use mathlib.Core.Option.{Option, none, some}
 use lib.Dec.{leb}
 use lib.ListN.{length, drop, set}
-use Rattle.journal.specs.Row.{Row}
+use Rattle.journal.specs.Row.{Row, rowSize, predecessor, predecessorNumber}
 use Rattle.journal.specs.Record.{usedWord}
 use Rattle.journal.specs.Journal.{words, readJournal}
 use Rattle.journal.specs.declared.call.Answer.{Answer}
 use Rattle.journal.specs.declared.call.Answer.the-variants.{Done, Refused}
+use Rattle.journal.specs.declared.call.Preceding.{Preceding}
+use Rattle.journal.specs.declared.call.Preceding.the-variants.{Nothing, Row as At, Refused as PrecedingRefused}
 
 abbrev pub Outcome : Type 0
 Outcome = Answer × List ℕ
@@ -40,3 +42,24 @@ strikeRead s n (some rs) = outcome (firstFailed ((13, leb n (length rs)) ∷ [])
 -- striking the last n rows: checks 7 and 13, then word 0 alone
 unfoldable pub striking : List ℕ → ℕ → Outcome
 striking s n = strikeRead s n (readJournal s)
+
+-- ---- the predecessor of the next fix
+
+-- row number n
+abbrev pub precedingOf : ℕ → Option Row → Preceding
+precedingOf n none = Nothing
+precedingOf n (some p) = At n (rowSize p)
+
+abbrev pub precedingRead : Option (List Row) → Preceding
+precedingRead none = PrecedingRefused 7
+precedingRead (some rs) = precedingOf (predecessorNumber rs) (predecessor rs)
+
+-- its row and its number of candidates, or none: check 7 alone
+unfoldable pub preceding : List ℕ → Preceding
+preceding s = precedingRead (readJournal s)
+
+-- how many candidates that tells of, 0 for none
+abbrev pub candidatesTold : Preceding → ℕ
+candidatesTold Nothing = 0
+candidatesTold (At number candidates) = candidates
+candidatesTold (PrecedingRefused k) = 0

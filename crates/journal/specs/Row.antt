@@ -72,6 +72,11 @@ unfoldable pub predecessor : List Row → Option Row
 predecessor [] = none
 predecessor (r ∷ rs) = cond (scores r) (some r) (predecessor rs)
 
+-- its number, from 0; 0 without one
+unfoldable pub predecessorNumber : List Row → ℕ
+predecessorNumber [] = 0
+predecessorNumber (r ∷ rs) = cond (scores r) (length rs) (predecessorNumber rs)
+
 -- how many candidates it has, 0 without one
 abbrev pub sizeOf : Option Row → ℕ
 sizeOf none = 0

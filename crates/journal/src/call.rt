@@ -1,13 +1,21 @@
-// Opening and striking.
+// Opening, striking, and asking for the predecessor.
+use crate::check::Predecessor;
 use crate::check::Survey;
 use crate::check::read_journal;
 ghost use mathlib.Core.Path.{_≡_};
-ghost use Rattle.journal.specs.Call.{opening, striking};
+ghost use Rattle.journal.specs.Call.{opening, striking, preceding};
 ghost use Rattle.journal.specs.inner.Strike.{RowsAtLeast, endOf};
 
 // What a call that writes the journal answers: done, or a refusal's number.
 pub enum Answer {
     Done,
+    Refused(u32),
+}
+
+// The predecessor of the next fix: none; its row, from 0, and how many candidates it has; or a refusal's number.
+pub enum Preceding {
+    Nothing,
+    Row { number: u32, candidates: usize },
     Refused(u32),
 }
 
@@ -56,5 +64,30 @@ pub fn strike(journal: &mut [u32], n: u32) -> Answer
             journal[0] = 0x5000_0000 + end as u32;
             Answer::Done
         }
+    }
+}
+
+// The row that the next fix's distances count from, and its number of candidates: check 7.
+pub fn predecessor(journal: &[u32]) -> Preceding
+    ensures { λ r. ⌜ r ≡ preceding (now (journal .entry)) ⌝ }
+{
+    let found = read_journal(journal);
+    match found {
+        Survey::NotWellFormed => Preceding::Refused(7),
+        Survey::WellFormed {
+            rows: _,
+            used: _,
+            latest,
+        } => match latest {
+            Predecessor::Nothing => Preceding::Nothing,
+            Predecessor::At {
+                place: _,
+                row,
+                candidates,
+            } => Preceding::Row {
+                number: row as u32,
+                candidates,
+            },
+        },
     }
 }
