@@ -12,7 +12,7 @@ of-preceding-requires c κs = search needs
 returns : tie.Need-returns
 returns c =
     let below = c .before .before .before .predecessor .ensures in
-    (rw below at (c .of-preceding .ensures .0), rw below at (c .of-preceding .ensures .1 .0), rw below at (c .of-preceding .ensures .1 .1))
+    (rw below at (c .of-preceding .ensures .0), (rw below at (c .of-preceding .ensures .1 .0), rw below at (c .of-preceding .ensures .1 .1)))
 
 pub box-predecessor-spec : {M : Type 1} → statement M
 box-predecessor-spec = tie.close (tie.spec predecessor-requires of-preceding-requires returns)
