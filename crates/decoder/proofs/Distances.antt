@@ -55,8 +55,8 @@ refused-for-range true true false true d e new old n q = sym n
 
 -- ---- how many distances check 10 asks for
 
-asked : (c q : ℕ) → c * beforeOf q c ≡ c * q
-asked c q = go (eqb c 0) refl
+distances-asked : (c q : ℕ) → c * beforeOf q c ≡ c * q
+distances-asked c q = go (eqb c 0) refl
   where
     go : (b : Bool) → eqb c 0 ≡ b → c * beforeOf q c ≡ c * q
     go true e = let z : c ≡ 0 = eqb→eq c 0 (taken e) in rw z (omega arith)
@@ -72,7 +72,7 @@ numberAsked rs g = candidateCount (fixGiven g) * beforeOf (sizeOf (predecessor r
 number-told : (rs : List Row) (g : Given) → length (g .elements) * candidatesTold (precedingRead (some rs)) ≡ numberAsked rs g
 number-told rs g =
     ap (λ (q : ℕ). length (g .elements) * q) (told-size (predecessorNumber rs) (predecessor rs))
-    ∙ sym (asked (length (g .elements)) (sizeOf (predecessor rs)))
+    ∙ sym (distances-asked (length (g .elements)) (sizeOf (predecessor rs)))
     ∙ ap (λ (c : ℕ). c * beforeOf (sizeOf (predecessor rs)) c) (sym (count-given g))
 
 -- ---- what feeding answers

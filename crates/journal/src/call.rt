@@ -15,7 +15,7 @@ pub enum Answer {
 // The predecessor of the next fix: none; its row, from 0, and how many candidates it has; or a refusal's number.
 pub enum Preceding {
     Nothing,
-    Row { number: u32, candidates: usize },
+    Row(u32, usize),
     Refused(u32),
 }
 
@@ -84,10 +84,7 @@ pub fn predecessor(journal: &[u32]) -> Preceding
                 place: _,
                 row,
                 candidates,
-            } => Preceding::Row {
-                number: row as u32,
-                candidates,
-            },
+            } => Preceding::Row(row as u32, candidates),
         },
     }
 }
