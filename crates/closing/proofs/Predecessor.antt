@@ -1,4 +1,4 @@
--- The row of which the call `predecessor` tells is read back as the row that the next fix is scored on. Assumes nothing.
+-- The row of which the call `predecessor` tells, read back by its number, is the row that the next fix is scored on. Assumes nothing.
 use Prim.Native.Nat.{ℕ}
 use mathlib.Core.Path.{_≡_, ap, _∙_}
 use mathlib.Core.List.{List}

@@ -71,6 +71,7 @@ module _ (s : List ℕ) (rows u : ℕ) (p : Predecessor) (e : survey s ≡ WellF
   unfolding preceding
   preceding-told q h = let r = survey-rows s rows u p e in ap told (sym (r .latest ∙ h)) ∙ latest-told (r .rows) ∙ rw (r .reads)
 
+  -- at most 65,535 rows stand
   pub row-fits : (place row c : ℕ) → p ≡ At place row c → row < 65536
   row-fits place row c q =
       let r = survey-rows s rows u p e in

@@ -45,7 +45,7 @@ striking s n = strikeRead s n (readJournal s)
 
 -- ---- the predecessor of the next fix
 
--- row number n
+-- what is told of it, where it is row number n
 abbrev pub precedingOf : ℕ → Option Row → Preceding
 precedingOf n none = Nothing
 precedingOf n (some p) = At n (rowSize p)
@@ -58,7 +58,7 @@ precedingRead (some rs) = precedingOf (predecessorNumber rs) (predecessor rs)
 unfoldable pub preceding : List ℕ → Preceding
 preceding s = precedingRead (readJournal s)
 
--- how many candidates that tells of, 0 for none
+-- how many candidates that tells of, 0 where it tells of no row
 abbrev pub candidatesTold : Preceding → ℕ
 candidatesTold Nothing = 0
 candidatesTold (At number candidates) = candidates
