@@ -12,11 +12,11 @@
    writes may not overlap anything else that it is handed. Beyond that nothing is asked: every call ends, whatever
    numbers and words it is handed.
 
-   Distances. A fix comes with a distance for each pair of a candidate of its predecessor and one of its own: that
-   between the two points on the tracks onto which the two fixes were projected, in metres along a great circle. Box is
-   handed no coordinates, so the host keeps the points of each row that it fed until the row is struck; before a fix it
-   asks box_predecessor for the row to count from, and hands over distances[j * count + i] for candidate j of that row
-   and its own candidate i of `count`.
+   Distances. A fix comes with a distance for each pair of a candidate of its predecessor and one of its own: in metres,
+   along a great circle, between the two candidates' points, the places on their tracks that the fixes were projected to.
+   Box is handed no coordinates, so the host keeps the points of each row that it fed until the row is struck; before a
+   fix it asks box_predecessor for the row to count from, and hands over distances[j * count + i] for candidate j of that
+   row and candidate i of the fix, which has `count` of them.
 
    Memory. No call allocates, and nothing is kept between calls: what Box knows stands in the journal, words that the
    host owns, and may copy, store and hand back. Threads may call at once, each on a journal of its own. No call uses
