@@ -193,7 +193,7 @@ struct box_row {
 #pragma GCC diagnostic ignored "-Wshadow"
 #endif
 
-/* box_read_row into a `struct box_row`, where every row fits. Refuses with 7, 13. */
+/* box_read_row into a `struct box_row`, which holds any row that stands. Refuses with 7, 13. */
 static inline uint32_t box_row(const uint32_t *journal, size_t journal_words, uint32_t row, struct box_row *out) {
     return box_read_row(journal, journal_words, row, out->elements, BOX_MAX_CANDIDATES, out->intrinsics,
         BOX_MAX_CANDIDATES, out->near_flags, BOX_MAX_CANDIDATES, out->raw_logs, BOX_MAX_CANDIDATES, out->parents,

@@ -6,4 +6,5 @@ pub mod Storing
 pub mod Buffers
 pub mod Rows
 pub mod Predecessor
+pub mod Room
 pub mod Closing
