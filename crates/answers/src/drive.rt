@@ -3,6 +3,7 @@ use crate::held_network::flags_of;
 use crate::held_network::headings_of;
 use crate::held_network::lengths_of;
 use crate::held_network::relations_of;
+use crate::held_network::windows_of;
 use crate::host::BACKWARD;
 use crate::host::Cuts;
 use crate::host::DISTANCES;
@@ -17,6 +18,9 @@ use crate::host::NEAR;
 use crate::host::RAW_LOGS;
 use crate::host::TO;
 use crate::host::TO_SIDE;
+use crate::host::WINDOW_COUNTS;
+use crate::host::WINDOW_FIRSTS;
+use crate::host::WINDOW_LASTS;
 use crate::host::cut;
 use crate::host::release;
 use crate::host::settings_of;
@@ -69,7 +73,7 @@ fn fill_words(journal: &mut [u32]) {
 
 // A journal of so many words, each FFFFFFFF, then opened.
 pub fn answer_journal(text: &[u8], h: Host, journal: &mut [u32], out: &mut Output) -> Host {
-    let n = take_count(text, h.cursor, 262144);
+    let n = take_count(text, h.cursor, 400000);
     let c = n.cursor;
     let mut r = with_cursor(h, c);
     if c.bad {
@@ -117,8 +121,12 @@ fn feed_fix(
         relations_of(h, numbers, cuts, TO_SIDE),
         relations_of(h, numbers, cuts, FORWARD),
         relations_of(h, numbers, cuts, BACKWARD),
+        relations_of(h, numbers, cuts, WINDOW_COUNTS),
+        windows_of(h, numbers, cuts, WINDOW_FIRSTS),
+        windows_of(h, numbers, cuts, WINDOW_LASTS),
         settings_of(h),
         journal,
+        h.minute,
         first_numbers(elements, cut(cuts, ELEMENTS, n)),
         first_floats(intrinsics, cut(cuts, INTRINSICS, n)),
         first_numbers(near, cut(cuts, NEAR, n)),

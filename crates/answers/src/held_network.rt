@@ -1,4 +1,6 @@
-// The network that is held: lengths and headings in one slice of floats, flags and the relations' fields in one of numbers, each in a part of its own.
+// The network that is held: lengths and headings in one slice of floats, flags, the relations' fields and their windows in one of numbers, each in a
+// part of its own.
+use crate::host::BACKWARD;
 use crate::host::Cuts;
 use crate::host::FLAGS;
 use crate::host::FORWARD;
@@ -9,6 +11,8 @@ use crate::host::Host;
 use crate::host::LENGTHS;
 use crate::host::TO;
 use crate::host::TO_SIDE;
+use crate::host::WINDOW_COUNTS;
+use crate::host::WINDOW_FIRSTS;
 use crate::host::cut;
 use crate::host::with_cursor;
 use crate::parts::copy_floats;
@@ -16,6 +20,7 @@ use crate::parts::copy_numbers;
 use crate::parts::floats_at;
 use crate::parts::least;
 use crate::parts::numbers_at;
+use crate::parts::put_number;
 use crate::parts::wide;
 use text::cursor::Cursor;
 use text::cursor::take_count;
@@ -29,10 +34,13 @@ pub const MOST_ELEMENTS: usize = 1100;
 
 const MOST_RELATIONS: usize = 4200;
 
+// How many windows of a relation are held.
+const WINDOWS: usize = 4;
+
 // How many floats and numbers they take.
 pub const FLOATS: usize = 5500;
 
-pub const NUMBERS: usize = 26300;
+pub const NUMBERS: usize = 64100;
 
 pub type NetworkFloats = [f64; FLOATS];
 
@@ -50,6 +58,16 @@ const TO_SIDE_START: usize = 13700;
 const FORWARD_START: usize = 17900;
 
 const BACKWARD_START: usize = 22100;
+
+// Where the counts of their windows start, and the first and the last minutes, four a relation.
+const WINDOW_COUNTS_START: usize = 26300;
+
+const WINDOW_FIRSTS_START: usize = 30500;
+
+const WINDOW_LASTS_START: usize = 47300;
+
+// How many numbers the windows take.
+const WINDOW_NUMBERS: usize = 37800;
 
 // The lengths that the next call gets.
 pub fn lengths_of<'a>(h: Host, floats: &'a [f64], cuts: &Cuts) -> &'a [f64] {
@@ -74,12 +92,21 @@ fn field_start(slice: usize) -> usize {
         FROM_SIDE => FROM_SIDE_START,
         TO_SIDE => TO_SIDE_START,
         FORWARD => FORWARD_START,
-        _ => BACKWARD_START,
+        BACKWARD => BACKWARD_START,
+        WINDOW_COUNTS => WINDOW_COUNTS_START,
+        WINDOW_FIRSTS => WINDOW_FIRSTS_START,
+        _ => WINDOW_LASTS_START,
     }
 }
 
 pub fn relations_of<'a>(h: Host, numbers: &'a [u32], cuts: &Cuts, slice: usize) -> &'a [u32] {
     numbers_at(numbers, field_start(slice), cut(cuts, slice, h.relations))
+}
+
+// The first or the last minutes of the windows, four a relation.
+pub fn windows_of<'a>(h: Host, numbers: &'a [u32], cuts: &Cuts, slice: usize) -> &'a [u32] {
+    let n = WINDOWS * least(h.relations, MOST_RELATIONS);
+    numbers_at(numbers, field_start(slice), cut(cuts, slice, n))
 }
 
 fn store_floats(floats: &mut [f64], start: usize, values: &[f64]) {
@@ -138,13 +165,31 @@ fn take_relations(text: &[u8], c: Cursor, n: u32, numbers: &mut [u32]) -> Cursor
     end
 }
 
+// No relation has a window.
+fn clear_windows(numbers: &mut [u32]) {
+    let none = [0u32; WINDOW_NUMBERS];
+    store_numbers(numbers, WINDOW_COUNTS_START, &none);
+}
+
 pub fn read_network(text: &[u8], h: Host, floats: &mut [f64], numbers: &mut [u32]) -> Host {
     let n = take_count(text, h.cursor, 1100);
     let m = take_count(text, n.cursor, 4200);
     let between = take_elements(text, m.cursor, n.value, floats, numbers);
     let end = take_relations(text, between, m.value, numbers);
+    clear_windows(numbers);
     let mut r = with_cursor(h, end);
     r.elements = wide(n.value);
     r.relations = wide(m.value);
     r
+}
+
+// A relation has so many windows: the first four of those given. Minutes held past them stay.
+pub fn hold_windows(numbers: &mut [u32], relation: u32, count: u32, firsts: &[u32], lasts: &[u32]) {
+    let k = least(wide(relation), MOST_RELATIONS);
+    let n = least(wide(count), WINDOWS);
+    put_number(numbers, WINDOW_COUNTS_START + k, count);
+    let first = WINDOW_FIRSTS_START + WINDOWS * k;
+    store_numbers(numbers, first, first_numbers(firsts, n));
+    let last = WINDOW_LASTS_START + WINDOWS * k;
+    store_numbers(numbers, last, first_numbers(lasts, n));
 }

@@ -6,7 +6,7 @@ use text::keyword::Slice;
 use transition::step::Settings;
 ghost use Prim.Native.Nat.{_≤_};
 
-// The numbers of slices, in the order of their names: the network's nine, a fix's five, the answer and the decisions.
+// The numbers of slices, in the order of their names: the network's twelve, a fix's five, the answer and the decisions.
 pub const LENGTHS: usize = 0;
 
 pub const HEADINGS: usize = 1;
@@ -25,21 +25,27 @@ pub const FORWARD: usize = 7;
 
 pub const BACKWARD: usize = 8;
 
-pub const ELEMENTS: usize = 9;
+pub const WINDOW_COUNTS: usize = 9;
 
-pub const INTRINSICS: usize = 10;
+pub const WINDOW_FIRSTS: usize = 10;
 
-pub const NEAR: usize = 11;
+pub const WINDOW_LASTS: usize = 11;
 
-pub const RAW_LOGS: usize = 12;
+pub const ELEMENTS: usize = 12;
 
-pub const DISTANCES: usize = 13;
+pub const INTRINSICS: usize = 13;
 
-pub const ANSWER: usize = 14;
+pub const NEAR: usize = 14;
 
-pub const DECISIONS: usize = 15;
+pub const RAW_LOGS: usize = 15;
 
-pub const SLICES: usize = 16;
+pub const DISTANCES: usize = 16;
+
+pub const ANSWER: usize = 17;
+
+pub const DECISIONS: usize = 18;
+
+pub const SLICES: usize = 19;
 
 // How many entries of each slice the next call gets.
 pub type Cuts = [u32; SLICES];
@@ -47,8 +53,8 @@ pub type Cuts = [u32; SLICES];
 // The cut of a slice that is lent whole.
 pub const WHOLE: u32 = 4294967295;
 
-// Where the text is read, the place in the output, the network's counts, the settings, the journal's words, how many segments are held, and whether
-// the last call that answers a list kept the entries past it.
+// Where the text is read, the place in the output, the network's counts, the settings, the minute of the calls, the journal's words, how many
+// segments are held, and whether the last call that answers a list kept the entries past it.
 pub struct Host {
     pub cursor: Cursor,
     pub out: usize,
@@ -56,6 +62,7 @@ pub struct Host {
     pub relations: usize,
     pub beta: f64,
     pub scale: f64,
+    pub minute: u32,
     pub words: usize,
     pub held: usize,
     pub kept: bool,
@@ -74,6 +81,7 @@ pub fn new_host() -> Host {
         relations: 0,
         beta: 0.0,
         scale: 0.0,
+        minute: 0,
         words: 0,
         held: 0,
         kept: true,
@@ -118,6 +126,9 @@ pub fn slice_number(slice: Slice) -> usize {
         Slice::ToSide => TO_SIDE,
         Slice::Forward => FORWARD,
         Slice::Backward => BACKWARD,
+        Slice::WindowCounts => WINDOW_COUNTS,
+        Slice::WindowFirsts => WINDOW_FIRSTS,
+        Slice::WindowLasts => WINDOW_LASTS,
         Slice::Elements => ELEMENTS,
         Slice::Intrinsics => INTRINSICS,
         Slice::Near => NEAR,
@@ -149,6 +160,6 @@ pub fn release(cuts: &mut Cuts, first: usize, end: usize) {
 
 // The same of a call that takes the network and answers a list.
 pub fn release_asked(cuts: &mut Cuts) {
-    release(cuts, LENGTHS, BACKWARD + 1);
+    release(cuts, LENGTHS, WINDOW_LASTS + 1);
     release(cuts, ANSWER, ANSWER + 1);
 }

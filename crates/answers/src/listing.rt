@@ -8,6 +8,7 @@ use crate::held_network::flags_of;
 use crate::held_network::headings_of;
 use crate::held_network::lengths_of;
 use crate::held_network::relations_of;
+use crate::held_network::windows_of;
 use crate::host::ANSWER;
 use crate::host::BACKWARD;
 use crate::host::Cuts;
@@ -17,6 +18,9 @@ use crate::host::FROM_SIDE;
 use crate::host::Host;
 use crate::host::TO;
 use crate::host::TO_SIDE;
+use crate::host::WINDOW_COUNTS;
+use crate::host::WINDOW_FIRSTS;
+use crate::host::WINDOW_LASTS;
 use crate::host::answered;
 use crate::host::cut;
 use crate::host::release_asked;
@@ -168,6 +172,9 @@ fn ask_steps(
         relations_of(h, numbers, cuts, TO_SIDE),
         relations_of(h, numbers, cuts, FORWARD),
         relations_of(h, numbers, cuts, BACKWARD),
+        relations_of(h, numbers, cuts, WINDOW_COUNTS),
+        windows_of(h, numbers, cuts, WINDOW_FIRSTS),
+        windows_of(h, numbers, cuts, WINDOW_LASTS),
         settings_of(h),
         journal,
         row,

@@ -10,7 +10,7 @@ use crate::print::OUTPUT_BYTES;
 use crate::print::Output;
 
 // The most words that a journal has.
-const JOURNAL_WORDS: usize = 262144;
+const JOURNAL_WORDS: usize = 400000;
 
 pub type Journal = [u32; JOURNAL_WORDS];
 

@@ -6,6 +6,7 @@ use crate::held_network::flags_of;
 use crate::held_network::headings_of;
 use crate::held_network::lengths_of;
 use crate::held_network::relations_of;
+use crate::held_network::windows_of;
 use crate::host::ANSWER;
 use crate::host::BACKWARD;
 use crate::host::Cuts;
@@ -16,6 +17,9 @@ use crate::host::Host;
 use crate::host::LENGTHS;
 use crate::host::TO;
 use crate::host::TO_SIDE;
+use crate::host::WINDOW_COUNTS;
+use crate::host::WINDOW_FIRSTS;
+use crate::host::WINDOW_LASTS;
 use crate::host::answered;
 use crate::host::cut;
 use crate::host::release;
@@ -100,6 +104,10 @@ fn find_route(
         relations_of(h, numbers, cuts, TO_SIDE),
         relations_of(h, numbers, cuts, FORWARD),
         relations_of(h, numbers, cuts, BACKWARD),
+        relations_of(h, numbers, cuts, WINDOW_COUNTS),
+        windows_of(h, numbers, cuts, WINDOW_FIRSTS),
+        windows_of(h, numbers, cuts, WINDOW_LASTS),
+        h.minute,
         start.element,
         start.side,
         goal.element,
@@ -229,6 +237,10 @@ fn ask_triple(
         relations_of(h, numbers, cuts, TO_SIDE),
         relations_of(h, numbers, cuts, FORWARD),
         relations_of(h, numbers, cuts, BACKWARD),
+        relations_of(h, numbers, cuts, WINDOW_COUNTS),
+        windows_of(h, numbers, cuts, WINDOW_FIRSTS),
+        windows_of(h, numbers, cuts, WINDOW_LASTS),
+        h.minute,
         a,
         b,
         c,
@@ -252,6 +264,6 @@ pub fn answer_triple(
         return r;
     }
     let answer = ask_triple(a.value, b.value, c.value, h, floats, numbers, cuts);
-    release(cuts, LENGTHS, BACKWARD + 1);
+    release(cuts, LENGTHS, WINDOW_LASTS + 1);
     with_out(r, print_triple(out, h.out, answer))
 }

@@ -96,11 +96,12 @@ fn print_distances(out: &mut Output, start: usize, distances: &[f64]) -> usize {
 fn print_row(out: &mut Output, start: usize, answer: RowRead) -> usize {
     match answer {
         RowRead::Refused(k) => print_refusal(out, start, b"row", k),
-        RowRead::Row(count, before) => {
+        RowRead::Row(count, before, minute) => {
             let named = print_bytes(out, start, b"row");
             let counted = print_count(out, named, count);
             let numbered = print_count(out, counted, before);
-            end_line(out, numbered)
+            let timed = print_number(out, numbered, minute);
+            end_line(out, timed)
         }
     }
 }
@@ -108,14 +109,14 @@ fn print_row(out: &mut Output, start: usize, answer: RowRead) -> usize {
 fn candidate_count(answer: RowRead) -> usize {
     match answer {
         RowRead::Refused(_) => 0,
-        RowRead::Row(count, _) => least(count, CANDIDATES),
+        RowRead::Row(count, _, _) => least(count, CANDIDATES),
     }
 }
 
 fn apart_count(answer: RowRead) -> usize {
     match answer {
         RowRead::Refused(_) => 0,
-        RowRead::Row(count, before) => {
+        RowRead::Row(count, before, _) => {
             distance_count(least(count, CANDIDATES), least(before, CANDIDATES))
         }
     }

@@ -8,6 +8,7 @@ use answers::held_network::flags_of;
 use answers::held_network::headings_of;
 use answers::held_network::lengths_of;
 use answers::held_network::relations_of;
+use answers::held_network::windows_of;
 use answers::host::ANSWER;
 use answers::host::BACKWARD;
 use answers::host::Cuts;
@@ -17,6 +18,9 @@ use answers::host::FROM_SIDE;
 use answers::host::Host;
 use answers::host::TO;
 use answers::host::TO_SIDE;
+use answers::host::WINDOW_COUNTS;
+use answers::host::WINDOW_FIRSTS;
+use answers::host::WINDOW_LASTS;
 use answers::host::answered;
 use answers::host::cut;
 use answers::host::release_asked;
@@ -90,6 +94,9 @@ fn build(h: Host, floats: &[f64], numbers: &[u32], journal: &[u32], cuts: &Cuts)
         relations_of(h, numbers, cuts, TO_SIDE),
         relations_of(h, numbers, cuts, FORWARD),
         relations_of(h, numbers, cuts, BACKWARD),
+        relations_of(h, numbers, cuts, WINDOW_COUNTS),
+        windows_of(h, numbers, cuts, WINDOW_FIRSTS),
+        windows_of(h, numbers, cuts, WINDOW_LASTS),
         journal,
         fill_list(),
         room,

@@ -26,8 +26,10 @@ use answers::routes::answer_routes;
 use answers::routes::answer_triple;
 use answers::row::answer_row;
 use answers::setup::poke;
+use answers::setup::read_minute;
 use answers::setup::read_settings;
 use answers::setup::read_short;
+use answers::setup::set_windows;
 use text::keyword::Keyword;
 use text::list::first_numbers;
 
@@ -51,6 +53,7 @@ fn ask(
 ) -> Host {
     match keyword {
         Keyword::Settings => read_settings(text, h),
+        Keyword::Minute => read_minute(text, h),
         Keyword::Poke => poke(text, h, journal),
         Keyword::Short => read_short(text, h, cuts),
         Keyword::Open => answer_open(h, journal, out),
@@ -84,6 +87,7 @@ pub fn answer(
     let keyword = line.keyword;
     match keyword {
         Keyword::Network => read_network(words, h, floats, numbers),
+        Keyword::Windows => set_windows(words, h, numbers),
         Keyword::Journal => answer_journal(words, h, journal, out),
         Keyword::Segments => answer_segments(
             h,

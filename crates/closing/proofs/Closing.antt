@@ -55,10 +55,10 @@ unfolding closingOn
 closed-not s room e = rw (survey-no s e)
 
 -- no row scores
-pub closed-nothing : (s : List ℕ) (room : ℕ) {rows used : ℕ} {p : Predecessor} → survey s ≡ WellFormed rows used p → p ≡ Nothing → closingOn s room ≡ gave nothing
+pub closed-nothing : (s : List ℕ) (room : ℕ) {rows used minute : ℕ} {p : Predecessor} → survey s ≡ WellFormed rows used p minute → p ≡ Nothing → closingOn s room ≡ gave nothing
 unfolding closingOn closing
 closed-nothing s room {rows} {used} e n =
-    let r = survey-rows s rows used Nothing (rw n at e) in
+    let r = survey-rows s rows used Nothing _ (rw n at e) in
     rw (r .reads, latest-none (r .rows) (r .latest), le-leb 0 room (omega arith))
 
 -- ---- the last scoring row
@@ -72,16 +72,16 @@ latest-scores (r ∷ rs) p e = go (scores r) refl (latest-scores rs p) e
     go true q ih k = let same : r ≡ p = cc in subst (λ (x : Row). T (scores x)) same (taken q)
     go false q ih k = ih k
 
-pub last-found : {s : List ℕ} {rows used : ℕ} {p : Predecessor} {place row count : ℕ} → survey s ≡ WellFormed rows used p → p ≡ At place row count → Scoring s rows used place count
-last-found {row = row} e f = record { row = row; found = rw f at e }
+pub last-found : {s : List ℕ} {rows used minute : ℕ} {p : Predecessor} {place row count : ℕ} → survey s ≡ WellFormed rows used p minute → p ≡ At place row count → Scoring s rows used place count
+last-found {minute = minute} {row = row} e f = record { row = row; minute = minute; found = rw f at e }
 
 -- where the walk starts
 abbrev pub begin : ℕ → ℕ → ℕ → Previous → Back
 begin rows used place best = record { rows = rows; end = used; latest = place; candidate = best .candidate; pairs = 0 }
 
 module _ (s : List ℕ) (rows used place count : ℕ) (h : Scoring s rows used place count) where
-  surveyed : Surveyed s rows used (At place (h .row) count)
-  surveyed = survey-rows s rows used (At place (h .row) count) (h .found)
+  surveyed : Surveyed s rows used (At place (h .row) count) (h .minute)
+  surveyed = survey-rows s rows used (At place (h .row) count) (h .minute) (h .found)
 
   same : rowsIn s ≡ surveyed .rows
   same = ap rowsRead (surveyed .reads)

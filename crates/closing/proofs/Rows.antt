@@ -87,7 +87,7 @@ module _ (ws : List ℕ) where
     many = row-size ws
 
     -- its length, by what is read
-    long : 7 * count + 2 * (count * (getD ws 0 0 / 32 % 32)) + 4 ≤ length ws
+    long : 7 * count + 2 * (count * (getD ws 0 0 / 32 % 32)) + 5 ≤ length ws
     unfolding recordLength
     long = rw (many, row-before) at (h .room)
 
@@ -99,6 +99,9 @@ module _ (ws : List ℕ) where
 
     pub some-words : 0 < length ws
     some-words = omega (arith, long)
+
+    pub head-whole : firstCell ≤ length ws
+    head-whole = omega (arith, long)
 
     pub fields-stand : (unit limit : ℕ) (buffer : List ℕ) → 0 < unit → 0 < limit → count ≤ length buffer → FieldsStand ws count unit limit buffer
     fields-stand unit limit buffer u l room = record { inside = omega (arith, long); some-unit = u; some-limit = l; room = room }
@@ -129,7 +132,7 @@ module _ (ws : List ℕ) where
         unfolding rowFitted
         row-fits = let m : length (readRow ws .distances) ≤ length (b .distances) = omega (arith, row-number) in rw (le-leb _ _ room, le-leb _ _ m)
 
-        pub row-answer : RowAnswer count (getD ws 0 0 / 32 % 32) ≡ rowAnswer (rowFitted b (readRow ws))
+        pub row-answer : RowAnswer count (getD ws 0 0 / 32 % 32) (readRow ws .minute) ≡ rowAnswer (rowFitted b (readRow ws))
         unfolding rowAnswer
         row-answer = rw (row-fits, row-size ws, row-before)
 
@@ -164,21 +167,21 @@ pub row-unread : (s : List ℕ) (n : ℕ) (b : RowBuffers) → survey s ≡ NotW
 unfolding reading
 row-unread s n b e = rw (survey-no s e)
 
-module _ (s : List ℕ) {rows used : ℕ} {p : Predecessor} (e : survey s ≡ WellFormed rows used p) (n : ℕ) where
+module _ (s : List ℕ) {rows used minute : ℕ} {p : Predecessor} (e : survey s ≡ WellFormed rows used p minute) (n : ℕ) where
   pub row-past : (b : RowBuffers) → rows ≤ n → reading s n b ≡ refused 13
   unfolding reading
   row-past b l =
-      let r = survey-rows s rows used p e in
+      let r = survey-rows s rows used p minute e in
       let m : length (r .rows) ≤ n = omega (arith, r .counted) in
       rw (r .reads, le-ltb _ _ m)
 
   module _ (l : n < rows) where
     pub row-standing : RowsAtLeast s (rows - n)
-    row-standing = struck-stand s (rows - n) rows used p e (omega arith)
+    row-standing = struck-stand s (rows - n) rows used p minute e (omega arith)
 
     module _ {place : ℕ} (q : place ≡ endOf s (rows - n)) where
-      surveyed : Surveyed s rows used p
-      surveyed = survey-rows s rows used p e
+      surveyed : Surveyed s rows used p minute
+      surveyed = survey-rows s rows used p minute e
 
       k : ℕ
       k = length (surveyed .rows) - suc n

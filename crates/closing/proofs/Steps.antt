@@ -15,7 +15,7 @@ use lib.Ieee.Fits.{and-r}
 use Rattle.lists.proofs.Lists.{drop-stored}
 use Rattle.binary64.specs.Values.{pzero}
 use Rattle.binary64.specs.Ranges.{inRange}
-use Rattle.journal.specs.Row.{Cell, Row, noParent, noCell, rowSize, cellOf, scoreOf, scores, predecessor, sizeOf}
+use Rattle.journal.specs.Row.{Cell, Row, noParent, noCell, rowSize, cellOf, scoreOf, scores, predecessor, sizeOf, latestMinute}
 use Rattle.journal.specs.Ranges.{rowLimit, lowestScore, parentOk, scoreOk, cellOk}
 use Rattle.journal.specs.Record.{firstCell, recordLength, readRow}
 use Rattle.journal.specs.Journal.{words, predecessorPlace, recordOn}
@@ -55,7 +55,7 @@ module _ (r : Row) (rs : List Row) (o : Obey (r ∷ rs)) where
   pub rules : (i : ℕ) → i < rowSize r → CellRules (r .before) (length rs) (cellOf r i)
   rules i h =
       cell-rules (r .before) (length rs) (cellOf r i)
-      (all-at (cellOk (r .before) (length rs)) (r .cells) i noCell (row-rules (sizeOf (predecessor rs)) (length rs) r (o .0 .1) .cells) h)
+      (all-at (cellOk (r .before) (length rs)) (r .cells) i noCell (row-rules (latestMinute rs) (sizeOf (predecessor rs)) (length rs) r (o .0 .1) .cells) h)
 
   -- no score is above 0
   pub obey-low : (i : ℕ) → T (le (scoreOf r i) pzero)
@@ -71,7 +71,7 @@ module _ (r : Row) (rs : List Row) (o : Obey (r ∷ rs)) where
   -- a parent is a candidate of the latest earlier row that scores, or none
   pub obey-parent : (i : ℕ) → i < rowSize r → (cellOf r i .parent ≡ noParent → ⊥) → cellOf r i .parent < sizeOf (predecessor rs)
   obey-parent i h n =
-      let before = row-rules (sizeOf (predecessor rs)) (length rs) r (o .0 .1) .before in
+      let before = row-rules (latestMinute rs) (sizeOf (predecessor rs)) (length rs) r (o .0 .1) .before in
       let some-cells : eqb (rowSize r) 0 ≡ false = ne-eqb (rowSize r) 0 (λ (e : rowSize r ≡ 0). omega arith) in
       let all-before : r .before ≡ sizeOf (predecessor rs) = before ∙ rw some-cells in
       rw all-before at (below (r .before) (cellOf r i .parent) n (rules i h .parent))

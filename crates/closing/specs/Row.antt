@@ -47,7 +47,7 @@ unfoldable pub rowFitted : RowBuffers → Row → Reading
 rowFitted b r = cond (leb (rowSize r) (candidateRoom b)) (cond (leb (length (r .distances)) (length (b .distances))) (gives r) (refused 15)) (refused 15)
 
 abbrev pub noRow : Row
-noRow = record { cells = []; before = 0; distances = [] }
+noRow = record { minute = 0; cells = []; before = 0; distances = [] }
 
 -- row number n, from 0, of these, the newest first
 abbrev pub rowNumber : List Row → ℕ → Row
@@ -61,9 +61,9 @@ readingRead n b (some rs) = cond (ltb n (length rs)) (rowFitted b (rowNumber rs 
 unfoldable pub reading : List ℕ → ℕ → RowBuffers → Reading
 reading s n b = readingRead n b (readJournal s)
 
--- its candidates and predecessor candidates, or a refusal's number
+-- its candidates, predecessor candidates and minute, or a refusal's number
 unfoldable pub rowAnswer : Reading → RowRead
-rowAnswer (gives r) = Answer (rowSize r) (r .before)
+rowAnswer (gives r) = Answer (rowSize r) (r .before) (r .minute)
 rowAnswer (refused k) = Refused k
 
 -- the buffers after the call: as they were where no row is answered

@@ -66,6 +66,7 @@ pub fn close(journal: &[u32], rows: &mut [u32], candidates: &mut [u32]) -> Closi
             rows: standing,
             used,
             latest,
+            minute: _,
         } => match latest {
             Predecessor::Nothing => Closing::Nothing,
             Predecessor::At {

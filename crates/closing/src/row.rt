@@ -5,6 +5,7 @@ use crate::buffer::least;
 use journal::call::end_before;
 use journal::check::Survey;
 use journal::check::read_journal;
+use journal::read::minute_of;
 use journal::record::FIRST_CELL;
 use journal::record::distance_count;
 ghost use mathlib.Core.Path.{_≡_};
@@ -12,9 +13,9 @@ ghost use Rattle.journal.specs.Record.{readRow};
 ghost use Rattle.closing.specs.Row.{RowBuffers, rowBuffersOf, rowFitted, reading, rowAnswer, filled};
 ghost use Rattle.closing.specs.inner.Buffer.{RecordWhole};
 
-// What reading a row answers: its number of candidates and of predecessor candidates, or a refusal's number.
+// What reading a row answers: its number of candidates and of predecessor candidates and its minute, or a refusal's number.
 pub enum RowRead {
-    Row(usize, usize),
+    Row(usize, usize, u32),
     Refused(u32),
 }
 
@@ -55,10 +56,10 @@ fn copy_row(
     copy_fields(words, count, 2048, 32, parents);
     copy_floats(words, FIRST_CELL + 5, 7, count, scores);
     copy_floats(words, FIRST_CELL + 7 * count + 1, 2, number, distances);
-    RowRead::Row(count, before)
+    RowRead::Row(count, before, minute_of(words))
 }
 
-// A row, from 0: its candidates' fields, parents and scores, and its distances into the buffers; or a refusal by check 7, by 13 where it does not
+// A row, from 0: its minute, and its candidates' fields, parents and scores, and its distances into the buffers; or a refusal by check 7, by 13 where it does not
 // stand, or by 15 where a list is longer than its buffers. Entries past a list keep what they held.
 pub fn read_row(
     journal: &[u32],
@@ -84,6 +85,7 @@ pub fn read_row(
             rows,
             used: _,
             latest: _,
+            minute: _,
         } => {
             let number = row as usize;
             if rows <= number {

@@ -23,7 +23,7 @@ use Rattle.journal.specs.declared.record.Candidate.{Candidate}
 use Rattle.journal.specs.Row.{Fix, Cell, Row, noCandidate, noCell, candidateCount, candidateOf, rowSize, cellOf, scoreOf, scores}
 use Rattle.journal.specs.inner.Row.{fixOf}
 use Rattle.journal.specs.Ranges.{rawLogOk, candidateOk}
-use Rattle.journal.proofs.Lists.{length-number, getD-number, map-number, number-self}
+use Rattle.lists.proofs.Lists.{length-number, getD-number, map-number, number-self}
 use Rattle.journal.proofs.Rules.{candidate-rules}
 use Rattle.transition.specs.declared.step.Step.{Step}
 use Rattle.transition.specs.declared.step.Step.the-variants.{Possible, Impossible}
@@ -94,7 +94,7 @@ module _ (step : StepScore) (o : Option Row) (f : Fix) where
       (map-number {A = Candidate} {B = Cell} (λ c. c .candidate) (λ i c. record { candidate = c; parent = (scored step o f i c) .0; score = (scored step o f i c) .1 }) 0 (f .candidates) ∙ number-self 0 (f .candidates))
     where
       same : List Candidate → Fix
-      same l = record { candidates = l; distances = f .distances }
+      same l = record { minute = f .minute; candidates = l; distances = f .distances }
 
   pub score-row : (i : ℕ) → i < candidateCount f → scoreOf (row step o f) i ≡ (scored step o f i (candidateOf f i)) .1
   score-row i h = ap (λ (c : Cell). c .score) (cell-row i h)

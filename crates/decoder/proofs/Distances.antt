@@ -5,16 +5,16 @@ use mathlib.Core.Path.{_≡_, refl, sym, ap, _∙_}
 use mathlib.Core.Bool.{Bool, true, false, _&&_}
 use mathlib.Core.List.{List, [], _∷_}
 use mathlib.Core.Option.{Option, none, some}
+use mathlib.Core.Logic.{⊎-elim}
 use lib.Dec.{leb, ltb, eqb, eqb→eq}
 use lib.ListN.{length}
 use lib.Ieee.Fits.{and-l}
 use borrow.Author.Tests.{eq-eqb}
 use Rattle.binary64.proofs.Order.{taken}
-use Rattle.network.specs.Network.{Network}
-use Rattle.network.specs.Graph.{elementCount, graph}
+use Rattle.network.specs.Network.{Network, knownCount}
 use Rattle.journal.specs.Lists.{each}
-use Rattle.journal.specs.Row.{Row, Given, fixGiven, candidateCount, predecessor, predecessorNumber, sizeOf, beforeOf}
-use Rattle.journal.specs.Ranges.{rowLimit, distanceOk, candidateOk}
+use Rattle.journal.specs.Row.{Row, Given, fixGiven, candidateCount, predecessor, predecessorNumber, sizeOf, latestMinute, beforeOf}
+use Rattle.journal.specs.Ranges.{rowLimit, minuteLimit, distanceOk, candidateOk}
 use Rattle.journal.specs.Journal.{recordOn, journal, put, used, readJournal}
 use Rattle.journal.specs.Call.{firstFailed, outcome, precedingOf, precedingRead, preceding, candidatesTold}
 use Rattle.journal.specs.declared.call.Answer.{Answer}
@@ -22,11 +22,11 @@ use Rattle.journal.specs.declared.call.Answer.the-variants.{Done, Refused}
 use Rattle.journal.proofs.Gathered.{count-given}
 use Rattle.transition.specs.Step.{transition}
 use Rattle.transition.specs.declared.step.Settings.{Settings}
-use Rattle.rows.specs.Row.{StepScore}
+use Rattle.rows.specs.Row.{StepsAt}
 use Rattle.decoder.specs.Call.{countsOk, knownRow, rowFed, feedChecks, feedRead, feedChecked, feeding}
 use Rattle.decoder.specs.Refusal.{refusalOf}
 use Rattle.decoder.proofs.Handed.{all-passed}
-use Rattle.decoder.proofs.Refusals.{refusal-up-to-6}
+use Rattle.decoder.proofs.Refusals.{refusal-of-these}
 
 -- ---- check 10 among the others
 
@@ -36,22 +36,23 @@ two-answers {i = i} {k = k} e n = let same : i ≡ k = cc in absurd (n same)
 not-done : {A : Type 0} {k : ℕ} → Refused k ≡ Done → A
 not-done e = let z : _≡_ {A = ℕ} 0 1 = cc in absurd (omega arith)
 
--- what checks 8 to 12 answer, by whether each passes; 10 is two tests
-abbrev answerBy : Bool → Bool → Bool → Bool → Bool → Bool → List ℕ → List ℕ → Answer
-answerBy a b number range d e new old = outcome (firstFailed ((8, a) ∷ (9, b) ∷ (10, number && range) ∷ (11, d) ∷ (12, e) ∷ [])) new old .0
+-- what checks 8 to 12 and 17 answer, by whether each passes; 10 is two tests
+abbrev answerBy : Bool → Bool → Bool → Bool → Bool → Bool → Bool → List ℕ → List ℕ → Answer
+answerBy a b number range c d e new old = outcome (firstFailed ((8, a) ∷ (9, b) ∷ (10, number && range) ∷ (17, c) ∷ (11, d) ∷ (12, e) ∷ [])) new old .0
 
 done-passed : (o : Option ℕ) (new old : List ℕ) → outcome o new old .0 ≡ Done → o ≡ none
 done-passed none new old q = refl
 done-passed (some k) new old q = not-done q
 
-refused-for-range : (a b number range d e : Bool) (new old : List ℕ) → number ≡ true → answerBy a b number range d e new old ≡ Refused 10 → range ≡ false
-refused-for-range false b number range d e new old n q = two-answers q (λ h. omega arith)
-refused-for-range true false number range d e new old n q = two-answers q (λ h. omega arith)
-refused-for-range true true number false d e new old n q = refl
-refused-for-range true true true true false e new old n q = two-answers q (λ h. omega arith)
-refused-for-range true true true true true false new old n q = two-answers q (λ h. omega arith)
-refused-for-range true true true true true true new old n q = not-done (sym q)
-refused-for-range true true false true d e new old n q = sym n
+refused-for-range : (a b number range c d e : Bool) (new old : List ℕ) → number ≡ true → answerBy a b number range c d e new old ≡ Refused 10 → range ≡ false
+refused-for-range false b number range c d e new old n q = two-answers q (λ h. omega arith)
+refused-for-range true false number range c d e new old n q = two-answers q (λ h. omega arith)
+refused-for-range true true number false c d e new old n q = refl
+refused-for-range true true true true false d e new old n q = two-answers q (λ h. omega arith)
+refused-for-range true true true true true false e new old n q = two-answers q (λ h. omega arith)
+refused-for-range true true true true true true false new old n q = two-answers q (λ h. omega arith)
+refused-for-range true true true true true true true new old n q = not-done (sym q)
+refused-for-range true true false true c d e new old n q = sym n
 
 -- ---- how many distances check 10 asks for
 
@@ -77,7 +78,7 @@ number-told rs g =
 
 -- ---- what feeding answers
 
-module _ (refusal : Option ℕ) (known : ℕ) (step : StepScore) (s : List ℕ) (g : Given) where
+module _ (refusal : Option ℕ) (known : ℕ) (step : StepsAt) (s : List ℕ) (g : Given) where
   range-read : (o : Option (List Row)) → length (g .distances) ≡ length (g .elements) * candidatesTold (precedingRead o) → feedRead refusal known step s g o .0 ≡ Refused 10
       → each distanceOk (g .distances) ≡ false
   range-read none n q = two-answers q (λ h. omega arith)
@@ -85,7 +86,7 @@ module _ (refusal : Option ℕ) (known : ℕ) (step : StepScore) (s : List ℕ) 
       let own = recordOn rs (rowFed refusal known step rs g) in
       refused-for-range (countsOk g) (each (candidateOk known) (fixGiven g .candidates) && each (knownRow known) rs)
       (eqb (length (g .distances)) (numberAsked rs g)) (each distanceOk (g .distances))
-      (ltb (length rs) rowLimit) (leb (length (journal rs) + length own) (length s)) (put s (used s) own) s
+      (ltb (g .minute) minuteLimit && leb (latestMinute rs) (g .minute)) (ltb (length rs) rowLimit) (leb (length (journal rs) + length own) (length s)) (put s (used s) own) s
       (eq-eqb (length (g .distances)) (numberAsked rs g) (n ∙ number-told rs g)) q
 
   number-read : (o : Option (List Row)) → feedRead refusal known step s g o .0 ≡ Done → length (g .distances) ≡ length (g .elements) * candidatesTold (precedingRead o)
@@ -118,10 +119,10 @@ module _ (refusal : Option ℕ) (known : ℕ) (step : StepScore) (s : List ℕ) 
 module _ (net : Network) (settings : Settings) (s : List ℕ) (g : Given) where
   -- a fix with that many distances for each candidate is refused with 10 only where one of them is out of range
   pub number-taken : length (g .distances) ≡ length (g .elements) * candidatesTold (preceding s)
-      → feeding (refusalOf net settings) (elementCount (graph net)) (transition net settings) s g .0 ≡ Refused 10 → each distanceOk (g .distances) ≡ false
-  number-taken = range-fed (refusalOf net settings) (elementCount (graph net)) (transition net settings) s g (λ e. omega (arith, refusal-up-to-6 net settings 10 e))
+      → feeding (refusalOf net settings) (knownCount net) (transition net settings) s g .0 ≡ Refused 10 → each distanceOk (g .distances) ≡ false
+  number-taken = range-fed (refusalOf net settings) (knownCount net) (transition net settings) s g (λ e. ⊎-elim (λ h. omega arith) (λ h. omega arith) (refusal-of-these net settings 10 e))
 
   -- and one that is fed has that many
-  pub number-exact : feeding (refusalOf net settings) (elementCount (graph net)) (transition net settings) s g .0 ≡ Done
+  pub number-exact : feeding (refusalOf net settings) (knownCount net) (transition net settings) s g .0 ≡ Done
       → length (g .distances) ≡ length (g .elements) * candidatesTold (preceding s)
-  number-exact = number-fed (refusalOf net settings) (elementCount (graph net)) (transition net settings) s g
+  number-exact = number-fed (refusalOf net settings) (knownCount net) (transition net settings) s g

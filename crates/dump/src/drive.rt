@@ -1,4 +1,4 @@
-// The lines of a drive: its network, its settings and its fixes.
+// The lines of a drive: its network with the windows, its settings, and its fixes with their minutes.
 use answers::drive::list_words;
 use answers::drive::read_feed;
 use answers::held_network::NetworkFloats;
@@ -18,7 +18,9 @@ use answers::print::Output;
 use answers::print::flush;
 use answers::print::print_error;
 use answers::print::print_refusal;
+use answers::setup::read_minute;
 use answers::setup::read_settings;
+use answers::setup::set_windows;
 use journal::call::Answer;
 use journal::call::open;
 use text::cursor::refuse;
@@ -67,7 +69,9 @@ fn perform(
     let keyword = line.keyword;
     match keyword {
         Keyword::Network => read_network(words, h, floats, numbers),
+        Keyword::Windows => set_windows(words, h, numbers),
         Keyword::Settings => read_settings(words, h),
+        Keyword::Minute => read_minute(words, h),
         Keyword::Feed => feed_line(words, h, floats, numbers, journal, cuts, out),
         _ => with_cursor(h, refuse(h.cursor)),
     }

@@ -10,7 +10,7 @@ use lib.Dec.{eqb}
 use lib.ListN.{length, drop}
 use Rattle.lists.proofs.Loops.{clash, two, and-both}
 use Rattle.journal.specs.Row.{noParent, cellOf}
-use Rattle.journal.specs.Record.{readRow}
+use Rattle.journal.specs.Record.{firstCell, readRow}
 use Rattle.journal.specs.declared.record.Candidate.{Candidate}
 use Rattle.rows.specs.inner.Scoring.{CandidateStands}
 use Rattle.closing.specs.declared.walk.Back.{Back}
@@ -48,6 +48,9 @@ module _ (s : List ℕ) (g : Gathering) (o : RecordLeft s (g .back)) {next : Bac
   pub next-stands : (next .pairs ≡ g .back .pairs → ⊥) → CandidateStands (drop (next .end) s) (g .back .candidate)
   next-stands q = rw e (over-candidate s (g .back) (o .reached) (o .left) (o .parent) (paired q))
 
+  pub next-head : (next .pairs ≡ g .back .pairs → ⊥) → firstCell ≤ length (drop (next .end) s)
+  next-head q = omega (arith, next-stands q .room)
+
   -- it holds no state
   pub no-state : next .pairs ≡ g .back .pairs → RecordTaken s g (record { begun = g .begun; ended = false; group = g .group; back = next })
   no-state q = record {
@@ -58,13 +61,13 @@ module _ (s : List ℕ) (g : Gathering) (o : RecordLeft s (g .back)) {next : Bac
   }
 
   -- it holds one
-  module _ (q : next .pairs ≡ g .back .pairs → ⊥) {c : Candidate} (is : c ≡ cellOf (readRow (drop (next .end) s)) (g .back .candidate) .candidate) where
-    states-split : statesFrom s (g .back) ≡ stateOf (next .rows) c ∷ statesFrom s next
+  module _ (q : next .pairs ≡ g .back .pairs → ⊥) {m : ℕ} (at : m ≡ readRow (drop (next .end) s) .minute) {c : Candidate} (is : c ≡ cellOf (readRow (drop (next .end) s)) (g .back .candidate) .candidate) where
+    states-split : statesFrom s (g .back) ≡ stateOf (next .rows) m c ∷ statesFrom s next
     states-split =
         ap (map (stateAt (rowsIn s))) (over-pair s (g .back) (o .reached) (o .left) (o .parent) (paired q))
-        ∙ rw (is, e, over-row s (g .back) (o .reached) (o .left) (o .parent) (paired q))
+        ∙ rw (at, is, e, over-row s (g .back) (o .reached) (o .left) (o .parent) (paired q))
 
-    pub first-state : g .begun ≡ false → RecordTaken s g (past (alone (stateOf (next .rows) c)))
+    pub first-state : g .begun ≡ false → RecordTaken s g (past (alone (stateOf (next .rows) m c)))
     first-state b = record {
       reached = reached-next;
       same = sym (ap (onto (groupRead g)) states-split ∙ rw b (unfold onto before in refl));
@@ -72,10 +75,10 @@ module _ (s : List ℕ) (g : Gathering) (o : RecordLeft s (g .back)) {next : Bac
       fewer = λ _. fewer-next;
     }
 
-    pub further-state : g .begun ≡ true → c .element ≡ g .group .element → RecordTaken s g (past (withState (stateOf (next .rows) c) (g .group)))
+    pub further-state : g .begun ≡ true → c .element ≡ g .group .element → RecordTaken s g (past (withState (stateOf (next .rows) m c) (g .group)))
     further-state b k = record {
       reached = reached-next;
-      same = sym (ap (onto (groupRead g)) states-split ∙ rw b (onto-joins (g .group) (stateOf (next .rows) c) (statesFrom s next) (eq-eqb _ _ k)));
+      same = sym (ap (onto (groupRead g)) states-split ∙ rw b (onto-joins (g .group) (stateOf (next .rows) m c) (statesFrom s next) (eq-eqb _ _ k)));
       ends = λ k. clash k refl;
       fewer = λ _. fewer-next;
     }
@@ -89,7 +92,7 @@ module _ (s : List ℕ) (g : Gathering) (o : RecordLeft s (g .back)) {next : Bac
     }
       where
         apart : onto (g .group ∷ []) (statesFrom s (g .back)) ≡ groupsFrom s (g .back) ++ (g .group ∷ [])
-        apart = rw states-split (onto-apart (g .group) (stateOf (next .rows) c) (statesFrom s next) (ne-eqb _ _ k))
+        apart = rw states-split (onto-apart (g .group) (stateOf (next .rows) m c) (statesFrom s next) (ne-eqb _ _ k))
 
 -- ---- all records of a group
 

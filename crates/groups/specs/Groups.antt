@@ -1,4 +1,4 @@
--- Document 01, "Segment": the groups of a path.
+-- Document 01, "Segment" (the minute: document 02, K4): the groups of a path.
 use Prim.Native.Nat.{ℕ}
 use mathlib.Core.Bool.{cond}
 use mathlib.Core.List.{List, [], _∷_, map}
@@ -10,18 +10,19 @@ use Rattle.decoder.specs.Closing.{Closed, nothing, path}
 use Rattle.closing.specs.Row.{rowNumber}
 use Rattle.groups.specs.declared.group.NetelementGroup.{NetelementGroup}
 
--- a state of the path: a row, and the element and intrinsic of its candidate there
+-- a state of the path: a row and its minute, and the element and intrinsic of its candidate there
 pub record State : Type 0 where
   pub row : ℕ
+  pub minute : ℕ
   pub element : ℕ
   pub intrinsic : Float
 
-abbrev pub stateOf : ℕ → Candidate → State
-stateOf row c = record { row = row; element = c .element; intrinsic = c .intrinsic }
+abbrev pub stateOf : ℕ → ℕ → Candidate → State
+stateOf row minute c = record { row = row; minute = minute; element = c .element; intrinsic = c .intrinsic }
 
 -- of a pair of a row and a candidate, where these are the rows, the newest first
 abbrev pub stateAt : List Row → ℕ × ℕ → State
-stateAt rs p = stateOf (p .0) (cellOf (rowNumber rs (p .0)) (p .1) .candidate)
+stateAt rs p = stateOf (p .0) (rowNumber rs (p .0) .minute) (cellOf (rowNumber rs (p .0)) (p .1) .candidate)
 
 unfoldable pub lesser : Float → Float → Float
 lesser x y = cond (lt x y) x y
@@ -31,12 +32,14 @@ greater x y = cond (lt x y) y x
 
 -- a group of one state
 abbrev pub alone : State → NetelementGroup
-alone s = record { element = s .element; «min_intrinsic» = s .intrinsic; «max_intrinsic» = s .intrinsic; «first_row» = s .row; «last_row» = s .row }
+alone s =
+    record { element = s .element; minute = s .minute; «min_intrinsic» = s .intrinsic; «max_intrinsic» = s .intrinsic; «first_row» = s .row; «last_row» = s .row }
 
 -- a group with the state before it
 unfoldable pub withState : State → NetelementGroup → NetelementGroup
 withState s g = record {
   element = g .element;
+  minute = s .minute;
   «min_intrinsic» = lesser (s .intrinsic) (g .«min_intrinsic»);
   «max_intrinsic» = greater (s .intrinsic) (g .«max_intrinsic»);
   «first_row» = s .row;

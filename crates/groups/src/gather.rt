@@ -4,6 +4,7 @@ use crate::group::new_group;
 use crate::group::update_group;
 use closing::walk::Back;
 use closing::walk::step_back;
+use journal::read::minute_of;
 use rows::previous::NO_PARENT;
 use rows::previous::candidate_of;
 ghost use mathlib.Core.Path.{_≡_};
@@ -50,6 +51,7 @@ fn gather_one(journal: &[u32], g: Gathering) -> Gathering
     }
     let at = next.end;
     let row = next.rows as u32;
+    let minute = minute_of(&journal[at..]);
     let candidate = candidate_of(&journal[at..], back.candidate as usize);
     if g.begun {
         if candidate.element != group.element {
@@ -63,14 +65,14 @@ fn gather_one(journal: &[u32], g: Gathering) -> Gathering
         return Gathering {
             begun: true,
             ended: false,
-            group: update_group(group, row, candidate),
+            group: update_group(group, row, minute, candidate),
             back: next,
         };
     }
     Gathering {
         begun: true,
         ended: false,
-        group: new_group(row, candidate),
+        group: new_group(row, minute, candidate),
         back: next,
     }
 }
@@ -82,6 +84,7 @@ pub fn gather_group(journal: &[u32], start: Back) -> Gathering
 {
     let none = NetelementGroup {
         element: 0,
+        minute: 0,
         min_intrinsic: 0.0,
         max_intrinsic: 0.0,
         first_row: 0,

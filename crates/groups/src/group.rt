@@ -3,9 +3,10 @@ use journal::record::Candidate;
 ghost use mathlib.Core.Path.{_≡_};
 ghost use Rattle.groups.specs.Groups.{stateOf, lesser, greater, alone, withState};
 
-// Consecutive states of one element: the least and the greatest intrinsic, the first and the last row.
+// Consecutive states of one element: the least and the greatest intrinsic, the first and the last row, and the minute of the first.
 pub struct NetelementGroup {
     pub element: u32,
+    pub minute: u32,
     pub min_intrinsic: f64,
     pub max_intrinsic: f64,
     pub first_row: u32,
@@ -31,11 +32,12 @@ fn max(x: f64, y: f64) -> f64
 }
 
 // The group of one state: a candidate of a row.
-pub fn new_group(row: u32, candidate: Candidate) -> NetelementGroup
-    ensures { λ r. ⌜ r ≡ alone (stateOf row candidate) ⌝ }
+pub fn new_group(row: u32, minute: u32, candidate: Candidate) -> NetelementGroup
+    ensures { λ r. ⌜ r ≡ alone (stateOf row minute candidate) ⌝ }
 {
     NetelementGroup {
         element: candidate.element,
+        minute,
         min_intrinsic: candidate.intrinsic,
         max_intrinsic: candidate.intrinsic,
         first_row: row,
@@ -44,11 +46,17 @@ pub fn new_group(row: u32, candidate: Candidate) -> NetelementGroup
 }
 
 // The group with the state before it.
-pub fn update_group(group: NetelementGroup, row: u32, candidate: Candidate) -> NetelementGroup
-    ensures { λ r. ⌜ r ≡ withState (stateOf row candidate) group ⌝ }
+pub fn update_group(
+    group: NetelementGroup,
+    row: u32,
+    minute: u32,
+    candidate: Candidate,
+) -> NetelementGroup
+    ensures { λ r. ⌜ r ≡ withState (stateOf row minute candidate) group ⌝ }
 {
     NetelementGroup {
         element: group.element,
+        minute,
         min_intrinsic: min(candidate.intrinsic, group.min_intrinsic),
         max_intrinsic: max(candidate.intrinsic, group.max_intrinsic),
         first_row: row,

@@ -9,7 +9,7 @@ use borrow.Author.Tests.{le-leb, lt-leb}
 use lib.ListN.{length, getD, drop, set, length-append, length-drop}
 use lib.Seq.{drop-cons, getD-at}
 use Rattle.journal.specs.Lists.{flat}
-use Rattle.journal.specs.Row.{Row, rowSize}
+use Rattle.journal.specs.Row.{Row, rowSize, latestMinute}
 use Rattle.journal.specs.Record.{lengthWord, usedWord, headOf, cellWords, distancesWords, recordLength, recordOf}
 use Rattle.journal.specs.Journal.{words, predecessorPlace, recordOn, journal, used, readJournal}
 use Rattle.journal.specs.WellFormed.{RowFits, Obey, WellFormed as Formed}
@@ -48,7 +48,7 @@ last-at place r w xs ys f =
 -- ---- back over the last rows
 
 noRow : Row
-noRow = record { cells = []; before = 0; distances = [] }
+noRow = record { minute = 0; cells = []; before = 0; distances = [] }
 
 pub words-cons : (r : Row) (rs : List Row) → words (r ∷ rs) ≡ words rs ++ recordOn rs r
 unfolding words
@@ -128,20 +128,21 @@ end-small s n st =
 
 -- ---- what check 7 found, in terms of rows
 
-pub record Surveyed (s : List ℕ) (n u : ℕ) (p : Predecessor) : Type 0 where
+pub record Surveyed (s : List ℕ) (n u : ℕ) (p : Predecessor) (m : ℕ) : Type 0 where
   pub rows : List Row
   pub reads : readJournal s ≡ some rows
   pub counted : length rows ≡ n
   pub ends : used s ≡ u
   pub latest : latestOf rows ≡ p
+  pub minute : latestMinute rows ≡ m
 
-pub survey-rows : (s : List ℕ) (n u : ℕ) (p : Predecessor) → survey s ≡ WellFormed n u p → Surveyed s n u p
+pub survey-rows : (s : List ℕ) (n u : ℕ) (p : Predecessor) (m : ℕ) → survey s ≡ WellFormed n u p m → Surveyed s n u p m
 unfolding survey
-survey-rows s n u p e = go (readJournal s) refl e
+survey-rows s n u p m e = go (readJournal s) refl e
   where
-    go : (o : Option (List Row)) → readJournal s ≡ o → surveyOf (used s) o ≡ WellFormed n u p → Surveyed s n u p
+    go : (o : Option (List Row)) → readJournal s ≡ o → surveyOf (used s) o ≡ WellFormed n u p m → Surveyed s n u p m
     go none q k = let z : _≡_ {A = ℕ} 0 1 = cc in absurd (omega arith)
-    go (some rs) q k = record { rows = rs; reads = q; counted = cc; ends = cc; latest = cc }
+    go (some rs) q k = record { rows = rs; reads = q; counted = cc; ends = cc; latest = cc; minute = cc }
 
 pub survey-no : (s : List ℕ) → survey s ≡ NotWellFormed → readJournal s ≡ none
 unfolding survey
@@ -161,20 +162,20 @@ pub struck-not : (s : List ℕ) (n : ℕ) → survey s ≡ NotWellFormed → Str
 unfolding striking
 struck-not s n e = rw (survey-no s e) (refl, refl)
 
-module _ (s : List ℕ) (n rows u : ℕ) (p : Predecessor) (e : survey s ≡ WellFormed rows u p) where
+module _ (s : List ℕ) (n rows u : ℕ) (p : Predecessor) (m : ℕ) (e : survey s ≡ WellFormed rows u p m) where
   pub struck-stand : n ≤ rows → RowsAtLeast s n
-  struck-stand h = let r = survey-rows s rows u p e in record { rows = r .rows; reads = r .reads; enough = omega (arith, r .counted) }
+  struck-stand h = let r = survey-rows s rows u p m e in record { rows = r .rows; reads = r .reads; enough = omega (arith, r .counted) }
 
   pub struck-more : rows < n → Struck s n (Refused 13) s
   unfolding striking
   struck-more h =
-      let r = survey-rows s rows u p e in
+      let r = survey-rows s rows u p m e in
       let l : length (r .rows) < n = omega (arith, r .counted) in
       rw (r .reads, lt-leb n (length (r .rows)) l) (refl, refl)
 
   pub struck-done : n ≤ rows → (end : ℕ) → end ≡ endOf s n → Struck s n Done (set s 0 (0x50000000 + end))
   unfolding striking recounted endOf
   struck-done h end q =
-      let r = survey-rows s rows u p e in
+      let r = survey-rows s rows u p m e in
       let l : n ≤ length (r .rows) = omega (arith, r .counted) in
       rw (q, r .reads, le-leb n (length (r .rows)) l) (refl, refl)

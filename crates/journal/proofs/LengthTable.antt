@@ -27,6 +27,6 @@ table-rule t h c p few few-before =
     rw (row, column) at (eqb→eq (getD t k 0) (recordLength (k / 17) (k % 17)) (taken (every-at 289 (entryRight t) h k (omega arith))))
 
 -- the longest record
-pub length-small : {c p : ℕ} → c ≤ candidateLimit → p ≤ candidateLimit → recordLength c p ≤ 628
+pub length-small : {c p : ℕ} → c ≤ candidateLimit → p ≤ candidateLimit → recordLength c p ≤ 629
 unfolding recordLength
 length-small few few-before = omega (arith, mul-le-mul few few-before)

@@ -66,13 +66,13 @@ pub preceding-not : (s : List ℕ) → survey s ≡ NotWellFormed → Refused 7 
 unfolding preceding
 preceding-not s e = rw (survey-no s e)
 
-module _ (s : List ℕ) (rows u : ℕ) (p : Predecessor) (e : survey s ≡ WellFormed rows u p) where
+module _ (s : List ℕ) (rows u : ℕ) (p : Predecessor) (m : ℕ) (e : survey s ≡ WellFormed rows u p m) where
   pub preceding-told : (q : Predecessor) → p ≡ q → told q ≡ preceding s
   unfolding preceding
-  preceding-told q h = let r = survey-rows s rows u p e in ap told (sym (r .latest ∙ h)) ∙ latest-told (r .rows) ∙ rw (r .reads)
+  preceding-told q h = let r = survey-rows s rows u p m e in ap told (sym (r .latest ∙ h)) ∙ latest-told (r .rows) ∙ rw (r .reads)
 
   -- at most 65,535 rows stand
   pub row-fits : (place row c : ℕ) → p ≡ At place row c → row < 65536
   row-fits place row c q =
-      let r = survey-rows s rows u p e in
+      let r = survey-rows s rows u p m e in
       omega (arith, latest-inside (r .rows) place row c (r .latest ∙ q), formed s (r .rows) (r .reads) .1)

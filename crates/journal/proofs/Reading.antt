@@ -13,9 +13,9 @@ use lib.Ieee.{Float, binary64, toBits, ofBits}
 use lib.Ieee.Bits.{ofBits-toBits}
 use lib.Ieee.Fits.{and-i, eq→eqb}
 use Rattle.journal.specs.Lists.{flat, starts}
-use Rattle.journal.specs.Row.{Cell, Row, rowSize, scores, predecessor, sizeOf, beforeOf}
-use Rattle.journal.specs.Ranges.{candidateLimit, rowLimit}
-use Rattle.journal.specs.Record.{headWord, candidateWord, distancesWord, lengthWord, usedWord, highHalf, lowHalf, headOf, cellWords, floatWords, recordLength, recordOf, readFloat, readCell, readDistance, readEach, headCount, headBefore, readRow}
+use Rattle.journal.specs.Row.{Cell, Row, rowSize, scores, predecessor, sizeOf, latestMinute, beforeOf}
+use Rattle.journal.specs.Ranges.{candidateLimit, rowLimit, minuteLimit}
+use Rattle.journal.specs.Record.{headWord, minuteWord, candidateWord, distancesWord, lengthWord, usedWord, highHalf, lowHalf, headOf, cellWords, floatWords, recordLength, recordOf, readFloat, readCell, readDistance, readEach, headCount, headBefore, readMinute, readRow}
 use Rattle.journal.specs.Journal.{words, predecessorPlace, recordOn, journal, rowOk, recordOk, readRows, used, usedWords, readJournal}
 use Rattle.journal.specs.WellFormed.{Each, Fitting, CellFits, RowFits, Obey}
 use Rattle.journal.proofs.LengthTable.{length-small}
@@ -42,6 +42,9 @@ module _ (c p : ℕ) (a : c ≤ 16) (b : p ≤ 16) where
 
   word-before : headWord c p / 32 % 32 ≡ p
   word-before = omega arith
+
+word-minute : (m : ℕ) → m < minuteLimit → readMinute (minuteWord m) ≡ m
+word-minute m h = omega arith
 
 read-cell : (c : Cell) (ws : List ℕ) → CellFits c → readCell (cellWords c ++ ws) ≡ c
 read-cell c ws h =
@@ -81,19 +84,19 @@ pub length-record : (place : ℕ) (r : Row) → length (r .distances) ≡ rowSiz
 unfolding recordOf recordLength
 length-record place r h = simp length-append (omega (arith, length-cells (r .cells), length-floats (r .distances)))
 
-pub record-least : (place : ℕ) (r : Row) → 4 ≤ length (recordOf place r)
+pub record-least : (place : ℕ) (r : Row) → 5 ≤ length (recordOf place r)
 unfolding recordOf
 record-least place r = simp length-append (omega arith)
 
-pub record-small : (place : ℕ) (r : Row) → RowFits r → length (recordOf place r) ≤ 628
+pub record-small : (place : ℕ) (r : Row) → RowFits r → length (recordOf place r) ≤ 629
 record-small place r h = omega (arith, length-record place r (h .number), length-small (h .few) (h .few-before))
 
 -- ---- a record
 
-parts : (w v : ℕ) (body : List ℕ) (c p : ℕ) → headCount w ≡ c → headBefore w ≡ p
-    → readRow (w ∷ v ∷ body) ≡ record { cells = readEach readCell 7 c body; before = p; distances = readEach readDistance 2 (c * p) (drop 1 (drop (7 * c) body)) }
+parts : (w v u : ℕ) (body : List ℕ) (c p m : ℕ) → headCount w ≡ c → headBefore w ≡ p → readMinute u ≡ m
+    → readRow (w ∷ v ∷ u ∷ body) ≡ record { minute = m; cells = readEach readCell 7 c body; before = p; distances = readEach readDistance 2 (c * p) (drop 1 (drop (7 * c) body)) }
 unfolding readRow
-parts w v body c p e f = rw (e, f)
+parts w v u body c p m e f g = rw (e, f, g)
 
 module _ (place : ℕ) (r : Row) (h : RowFits r) (ws : List ℕ) where
   end : List ℕ
@@ -114,12 +117,12 @@ module _ (place : ℕ) (r : Row) (h : RowFits r) (ws : List ℕ) where
   pub read-row : readRow (recordOf place r ++ ws) ≡ r
   read-row =
       ap (λ (l : List ℕ). readRow l) body-is
-      ∙ parts (headWord (rowSize r) (r .before)) _ (flat cellWords (r .cells) ++ past) (rowSize r) (r .before) (word-count (rowSize r) (r .before) (h .few) (h .few-before)) (word-before (rowSize r) (r .before) (h .few) (h .few-before))
+      ∙ parts (headWord (rowSize r) (r .before)) _ (minuteWord (r .minute)) (flat cellWords (r .cells) ++ past) (rowSize r) (r .before) (r .minute) (word-count (rowSize r) (r .before) (h .few) (h .few-before)) (word-before (rowSize r) (r .before) (h .few) (h .few-before)) (word-minute (r .minute) (h .minute))
       ∙ rw (read-cells (r .cells) past (h .cells), drop-at (flat cellWords (r .cells)) past (7 * rowSize r) (length-cells (r .cells)), ← h .number)
       (ap (λ (l : List Float). back l) (unfold past in read-floats (r .distances) (end ++ ws) (h .distances)))
     where
       back : List Float → Row
-      back l = record { cells = r .cells; before = r .before; distances = l }
+      back l = record { minute = r .minute; cells = r .cells; before = r .before; distances = l }
 
 -- ---- rows
 
@@ -153,11 +156,11 @@ read-at n rs r (w ∷ ws) l e ok =
     look : Row → Option (List Row)
     look x = cond (recordOk rs x (w ∷ ws)) (readRows n (x ∷ rs) (drop (length (recordOn rs x)) (w ∷ ws))) none
 
-read-one : (n : ℕ) (rs : List Row) (r : Row) (ws : List ℕ) → RowFits r → T (rowOk (sizeOf (predecessor rs)) (length rs) r) → readRows (suc n) rs (recordOn rs r ++ ws) ≡ readRows n (r ∷ rs) ws
+read-one : (n : ℕ) (rs : List Row) (r : Row) (ws : List ℕ) → RowFits r → T (rowOk (latestMinute rs) (sizeOf (predecessor rs)) (length rs) r) → readRows (suc n) rs (recordOn rs r ++ ws) ≡ readRows n (r ∷ rs) ws
 read-one n rs r ws h ok =
     let own = recordOn rs r in
     read-at n rs r (own ++ ws) (simp length-append (omega (arith, record-least (predecessorPlace rs) r))) (read-row (predecessorPlace rs) r h ws)
-    (and-i (starts own (own ++ ws)) (rowOk (sizeOf (predecessor rs)) (length rs) r) (starts-self own ws) ok)
+    (and-i (starts own (own ++ ws)) (rowOk (latestMinute rs) (sizeOf (predecessor rs)) (length rs) r) (starts-self own ws) ok)
     ∙ ap (λ (l : List ℕ). readRows n (r ∷ rs) l) (drop-append-seam own ws)
 
 read-more : (n : ℕ) (rs : List Row) (ws : List ℕ) → Obey rs → readRows (length rs + n) [] (words rs ++ ws) ≡ readRows n rs ws
@@ -184,7 +187,7 @@ read-words rs h l =
 
 -- ---- the journal
 
-pub words-small : (rs : List Row) → Obey rs → length (words rs) ≤ 628 * length rs
+pub words-small : (rs : List Row) → Obey rs → length (words rs) ≤ 629 * length rs
 unfolding words
 words-small [] h = omega arith
 words-small (r ∷ rs) h = simp length-append (omega (arith, words-small rs (h .1), record-small (predecessorPlace rs) r (h .0 .0)))

@@ -16,10 +16,10 @@ use Rattle.binary64.proofs.Order.{same-test}
 use Rattle.journal.specs.Lists.{each, flat, starts}
 use Rattle.journal.specs.Row.{Cell, Row, rowSize, beforeOf}
 use Rattle.journal.specs.Ranges.{candidateLimit, distanceOk, cellOk}
-use Rattle.journal.specs.Record.{headWord, distancesWord, lengthWord, predecessorWord, firstCell, cellWords, floatWords, recordLength, recordOf, readCell, readDistance, readEach, headCount, headBefore, readRow}
+use Rattle.journal.specs.Record.{headWord, distancesWord, lengthWord, predecessorWord, minuteWord, firstCell, cellWords, floatWords, recordLength, recordOf, readCell, readDistance, readEach, headCount, headBefore, readMinute, readRow}
 use Rattle.journal.specs.Journal.{rowOk}
-use Rattle.journal.specs.inner.Check.{wellRead, bodyReads}
-use Rattle.journal.proofs.Rules.{five, of-five, six, of-six, row-rules, rules-row}
+use Rattle.journal.specs.inner.Check.{wellRead, minuteReads, bodyReads}
+use Rattle.journal.proofs.Rules.{five, of-five, six, of-six, seven, of-seven, row-rules, rules-row}
 use Rattle.journal.proofs.Reading.{length-cells, length-floats}
 use Rattle.journal.proofs.Tests.{drop-first}
 
@@ -90,17 +90,21 @@ of-one x (a ∷ l) h e = and-i (eqb x a) true (eq→eqb (sym e)) tt
 -- ---- the record that starts with w, before the other words
 
 abbrev cellsAt : ℕ → List ℕ → List Cell
-cellsAt w body = readEach readCell 7 (headCount w) (drop 1 body)
+cellsAt w body = readEach readCell 7 (headCount w) (drop 2 body)
 
 -- from the word of the distances on
 abbrev gapAt : ℕ → List ℕ → List ℕ
-gapAt w body = drop (7 * headCount w) (drop 1 body)
+gapAt w body = drop (7 * headCount w) (drop 2 body)
 
 abbrev distancesAt : ℕ → List ℕ → List Float
 distancesAt w body = readEach readDistance 2 (headCount w * headBefore w) (drop 1 (gapAt w body))
 
+-- the minute of the word after the next
+abbrev minuteAt : List ℕ → ℕ
+minuteAt body = readMinute (getD body 1 0)
+
 abbrev pub rowAt : ℕ → List ℕ → Row
-rowAt w body = record { cells = cellsAt w body; before = headBefore w; distances = distancesAt w body }
+rowAt w body = record { minute = minuteAt body; cells = cellsAt w body; before = headBefore w; distances = distancesAt w body }
 
 module _ (w : ℕ) (body : List ℕ) where
   pub row-is : readRow (w ∷ body) ≡ rowAt w body
@@ -108,7 +112,7 @@ module _ (w : ℕ) (body : List ℕ) where
   row-is = refl
 
   pub size-is : rowSize (rowAt w body) ≡ headCount w
-  size-is = length-each readCell 7 (headCount w) (drop 1 body)
+  size-is = length-each readCell 7 (headCount w) (drop 2 body)
 
   pub number-is : length (distancesAt w body) ≡ headCount w * headBefore w
   number-is = length-each readDistance 2 (headCount w * headBefore w) (drop 1 (gapAt w body))
@@ -119,6 +123,7 @@ module _ (w : ℕ) (body : List ℕ) where
   record-is : (place : ℕ) → recordOf place (rowAt w body)
       ≡ headWord (headCount w) (headBefore w)
       ∷ predecessorWord place
+      ∷ minuteWord (minuteAt body)
       ∷ (flat cellWords (cellsAt w body) ++ ((distancesWord (headCount w * headBefore w) ∷ []) ++ (flat floatWords (distancesAt w body) ++ (last ∷ []))))
   unfolding recordOf
   record-is place = rw (size-is, number-is)
@@ -130,8 +135,8 @@ module _ (w : ℕ) (body : List ℕ) where
   long-distances = length-floats (distancesAt w body) ∙ ap (λ (n : ℕ). 2 * n) number-is
 
   -- where its parts start
-  cells-are : drop 1 body ≡ drop firstCell (w ∷ body)
-  cells-are = drop-drop 1 1 (w ∷ body)
+  cells-are : drop 2 body ≡ drop firstCell (w ∷ body)
+  cells-are = drop-drop 2 1 (w ∷ body)
 
   gap-is : gapAt w body ≡ drop (firstCell + 7 * headCount w) (w ∷ body)
   gap-is = ap (drop (7 * headCount w)) cells-are ∙ drop-drop (7 * headCount w) firstCell (w ∷ body)
@@ -152,34 +157,39 @@ module _ (w : ℕ) (body : List ℕ) where
   record-starts : (place : ℕ) → starts (recordOf place (rowAt w body)) (w ∷ body)
       ≡ eqb (headWord (headCount w) (headBefore w)) w
       && (starts (predecessorWord place ∷ []) body
-      && (starts (flat cellWords (cellsAt w body)) (drop 1 body)
+      && (starts (minuteWord (minuteAt body) ∷ []) (drop 1 body)
+      && (starts (flat cellWords (cellsAt w body)) (drop 2 body)
       && (starts (distancesWord (headCount w * headBefore w) ∷ []) (drop (firstCell + 7 * headCount w) (w ∷ body))
-      && (starts (flat floatWords (distancesAt w body)) (drop 1 (gapAt w body)) && starts (last ∷ []) (drop (recordLength (headCount w) (headBefore w) - 1) (w ∷ body))))))
+      && (starts (flat floatWords (distancesAt w body)) (drop 1 (gapAt w body)) && starts (last ∷ []) (drop (recordLength (headCount w) (headBefore w) - 1) (w ∷ body)))))))
   record-starts place =
       let v = predecessorWord place ∷ [] in
+      let t = minuteWord (minuteAt body) ∷ [] in
       let cs = flat cellWords (cellsAt w body) in
       let d = distancesWord (headCount w * headBefore w) ∷ [] in
       let fs = flat floatWords (distancesAt w body) in
       ap (λ (l : List ℕ). starts l (w ∷ body)) (record-is place)
       ∙ ap (λ (b : Bool). eqb (headWord (headCount w) (headBefore w)) w && b)
-      (starts-append v (cs ++ (d ++ (fs ++ (last ∷ [])))) body
+      (starts-append v (t ++ (cs ++ (d ++ (fs ++ (last ∷ []))))) body
       ∙ ap (λ (b : Bool). starts v body && b)
-      (starts-append cs (d ++ (fs ++ (last ∷ []))) (drop 1 body)
-      ∙ ap (λ (b : Bool). starts cs (drop 1 body) && b)
-      (ap (λ (n : ℕ). starts (d ++ (fs ++ (last ∷ []))) (drop n (drop 1 body))) long-cells
+      (starts-append t (cs ++ (d ++ (fs ++ (last ∷ [])))) (drop 1 body)
+      ∙ ap (λ (l : List ℕ). starts t (drop 1 body) && starts (cs ++ (d ++ (fs ++ (last ∷ [])))) l) (drop-drop 1 1 body)
+      ∙ ap (λ (b : Bool). starts t (drop 1 body) && b)
+      (starts-append cs (d ++ (fs ++ (last ∷ []))) (drop 2 body)
+      ∙ ap (λ (b : Bool). starts cs (drop 2 body) && b)
+      (ap (λ (n : ℕ). starts (d ++ (fs ++ (last ∷ []))) (drop n (drop 2 body))) long-cells
       ∙ starts-append d (fs ++ (last ∷ [])) (gapAt w body)
       ∙ ap (λ (l : List ℕ). starts d l && starts (fs ++ (last ∷ [])) (drop 1 (gapAt w body))) gap-is
       ∙ ap (λ (b : Bool). starts d (drop (firstCell + 7 * headCount w) (w ∷ body)) && b)
       (starts-append fs (last ∷ []) (drop 1 (gapAt w body))
       ∙ ap (λ (n : ℕ). starts fs (drop 1 (gapAt w body)) && starts (last ∷ []) (drop n (drop 1 (gapAt w body)))) long-distances
-      ∙ ap (λ (l : List ℕ). starts fs (drop 1 (gapAt w body)) && starts (last ∷ []) l) end-is))))
+      ∙ ap (λ (l : List ℕ). starts fs (drop 1 (gapAt w body)) && starts (last ∷ []) l) end-is)))))
 
   -- its cells, and its distances, word by word
-  cells-test : (n : ℕ) → starts (flat cellWords (cellsAt w body)) (drop 1 body) && each (cellOk (headBefore w) n) (cellsAt w body)
+  cells-test : (n : ℕ) → starts (flat cellWords (cellsAt w body)) (drop 2 body) && each (cellOk (headBefore w) n) (cellsAt w body)
       ≡ everyBelow (headCount w) (λ k. wellRead cellWords readCell (cellOk (headBefore w) n) (drop (firstCell + 7 * k) (w ∷ body)))
   cells-test n =
-      each-test readCell 7 cellWords (cellOk (headBefore w) n) (λ c. refl) (headCount w) (drop 1 body)
-      ∙ every-same (headCount w) (λ k. wellRead cellWords readCell (cellOk (headBefore w) n) (drop (7 * k) (drop 1 body))) (λ k. wellRead cellWords readCell (cellOk (headBefore w) n) (drop (firstCell + 7 * k) (w ∷ body)))
+      each-test readCell 7 cellWords (cellOk (headBefore w) n) (λ c. refl) (headCount w) (drop 2 body)
+      ∙ every-same (headCount w) (λ k. wellRead cellWords readCell (cellOk (headBefore w) n) (drop (7 * k) (drop 2 body))) (λ k. wellRead cellWords readCell (cellOk (headBefore w) n) (drop (firstCell + 7 * k) (w ∷ body)))
       (λ k. ap (wellRead cellWords readCell (cellOk (headBefore w) n)) (ap (drop (7 * k)) cells-are ∙ drop-drop (7 * k) firstCell (w ∷ body)))
 
   distances-test : starts (flat floatWords (distancesAt w body)) (drop 1 (gapAt w body)) && each distanceOk (distancesAt w body)
@@ -191,18 +201,19 @@ module _ (w : ℕ) (body : List ℕ) where
       (λ k. ap (wellRead floatWords readDistance distanceOk) (ap (drop (2 * k)) past-gap ∙ drop-drop (2 * k) (firstCell + 7 * headCount w + 1) (w ∷ body)))
 
 -- where all but the last word pass, the last word decides
-pub body-last : (place c p n : ℕ) (ws : List ℕ) (l m : ℕ) → l ≡ recordLength c p → m ≡ c * p
+pub body-last : (place since c p n : ℕ) (ws : List ℕ) (l m : ℕ) → l ≡ recordLength c p → m ≡ c * p
     → eqb (getD ws 1 0) (predecessorWord place) ≡ true
+    → minuteReads since (getD ws 2 0) ≡ true
     → everyBelow c (λ k. wellRead cellWords readCell (cellOk p n) (drop (firstCell + 7 * k) ws)) ≡ true
     → eqb (getD ws (firstCell + 7 * c) 0) (distancesWord m) ≡ true
     → everyBelow m (λ k. wellRead floatWords readDistance distanceOk (drop (firstCell + 7 * c + 1 + 2 * k) ws)) ≡ true
-    → eqb (getD ws (l - 1) 0) (lengthWord l) ≡ bodyReads place c p n ws
+    → eqb (getD ws (l - 1) 0) (lengthWord l) ≡ bodyReads place since c p n ws
 unfolding bodyReads
-body-last place c p n ws l m e f v a b d = rw (← e, ← f, v, a, b, d)
+body-last place since c p n ws l m e f v t a b d = rw (← e, ← f, v, t, a, b, d)
 
 -- ---- the whole record
 
-module _ (place q n w : ℕ) (body : List ℕ) where
+module _ (place since q n w : ℕ) (body : List ℕ) where
   abbrev c : ℕ
   c = headCount w
 
@@ -213,65 +224,73 @@ module _ (place q n w : ℕ) (body : List ℕ) where
   ws = w ∷ body
 
   abbrev asked : Bool
-  asked = starts (recordOf place (rowAt w body)) ws && rowOk q n (rowAt w body)
+  asked = starts (recordOf place (rowAt w body)) ws && rowOk since q n (rowAt w body)
 
   abbrev tested : Bool
-  tested = eqb (w / 1024) 262144 && (leb c candidateLimit && (eqb p (beforeOf q c) && (leb (recordLength c p) (length ws) && bodyReads place c p n ws)))
+  tested = eqb (w / 1024) 262144 && (leb c candidateLimit && (eqb p (beforeOf q c) && (leb (recordLength c p) (length ws) && bodyReads place since c p n ws)))
+
+  -- the word of the minute
+  abbrev ownMinute : ℕ
+  ownMinute = minuteWord (minuteAt body)
 
   here : T asked → T tested
-  unfolding bodyReads
+  unfolding bodyReads minuteReads
   here t =
       let d = distancesWord (c * p) in
       let l = last w body in
-      let s = six (eqb (headWord c p) w) (starts (predecessorWord place ∷ []) body) (starts (flat cellWords (cellsAt w body)) (drop 1 body)) (starts (d ∷ []) (drop (firstCell + 7 * c) ws)) (starts (flat floatWords (distancesAt w body)) (drop 1 (gapAt w body))) (starts (l ∷ []) (drop (recordLength c p - 1) ws))
-      (subst T (record-starts w body place) (and-l (starts (recordOf place (rowAt w body)) ws) (rowOk q n (rowAt w body)) t)) in
-      let rules = row-rules q n (rowAt w body) (and-r (starts (recordOf place (rowAt w body)) ws) (rowOk q n (rowAt w body)) t) in
+      let s = seven (eqb (headWord c p) w) (starts (predecessorWord place ∷ []) body) (starts (ownMinute ∷ []) (drop 1 body)) (starts (flat cellWords (cellsAt w body)) (drop 2 body)) (starts (d ∷ []) (drop (firstCell + 7 * c) ws)) (starts (flat floatWords (distancesAt w body)) (drop 1 (gapAt w body))) (starts (l ∷ []) (drop (recordLength c p - 1) ws))
+      (subst T (record-starts w body place) (and-l (starts (recordOf place (rowAt w body)) ws) (rowOk since q n (rowAt w body)) t)) in
+      let rules = row-rules since q n (rowAt w body) (and-r (starts (recordOf place (rowAt w body)) ws) (rowOk since q n (rowAt w body)) t) in
       let head = eqb→eq (headWord c p) w (s .0) in
       let place-word = one (predecessorWord place) body (s .1) in
-      let middle = one d (drop (firstCell + 7 * c) ws) (s .3) in
-      let end = one l (drop (recordLength c p - 1) ws) (s .5) in
+      let minute-word = one ownMinute (drop 1 body) (s .2) in
+      let middle = one d (drop (firstCell + 7 * c) ws) (s .4) in
+      let end = one l (drop (recordLength c p - 1) ws) (s .6) in
       let kind : w / 1024 ≡ 262144 = omega arith in
       let few : c ≤ candidateLimit = omega (arith, size-is w body, rules .few) in
       let room : recordLength c p ≤ length ws = omega (arith, end .0, length-drop (recordLength c p - 1) ws) in
-      of-five (eqb (w / 1024) 262144) (leb c candidateLimit) (eqb p (beforeOf q c)) (leb (recordLength c p) (length ws)) (bodyReads place c p n ws)
+      of-five (eqb (w / 1024) 262144) (leb c candidateLimit) (eqb p (beforeOf q c)) (leb (recordLength c p) (length ws)) (bodyReads place since c p n ws)
       (eq→eqb kind)
       (le→leb c candidateLimit few)
       (eq→eqb (rules .before ∙ ap (beforeOf q) (size-is w body)))
       (le→leb (recordLength c p) (length ws) room)
-      (of-five (eqb (getD ws 1 0) (predecessorWord place)) (everyBelow c (λ k. wellRead cellWords readCell (cellOk p n) (drop (firstCell + 7 * k) ws))) (eqb (getD ws (firstCell + 7 * c) 0) d) (everyBelow (c * p) (λ k. wellRead floatWords readDistance distanceOk (drop (firstCell + 7 * c + 1 + 2 * k) ws))) (eqb (getD ws (recordLength c p - 1) 0) l)
+      (of-six (eqb (getD ws 1 0) (predecessorWord place)) (eqb (getD ws 2 0) ownMinute && leb since (minuteAt body)) (everyBelow c (λ k. wellRead cellWords readCell (cellOk p n) (drop (firstCell + 7 * k) ws))) (eqb (getD ws (firstCell + 7 * c) 0) d) (everyBelow (c * p) (λ k. wellRead floatWords readDistance distanceOk (drop (firstCell + 7 * c + 1 + 2 * k) ws))) (eqb (getD ws (recordLength c p - 1) 0) l)
       (eq→eqb (place-word .1))
-      (subst T (cells-test w body n) (and-i (starts (flat cellWords (cellsAt w body)) (drop 1 body)) (each (cellOk p n) (cellsAt w body)) (s .2) (rules .cells)))
+      (and-i (eqb (getD ws 2 0) ownMinute) (leb since (minuteAt body)) (eq→eqb (sym (drop-first 1 body) ∙ minute-word .1)) (le→leb since (minuteAt body) (rules .minute)))
+      (subst T (cells-test w body n) (and-i (starts (flat cellWords (cellsAt w body)) (drop 2 body)) (each (cellOk p n) (cellsAt w body)) (s .3) (rules .cells)))
       (eq→eqb (sym (drop-first (firstCell + 7 * c) ws) ∙ middle .1))
-      (subst T (distances-test w body) (and-i (starts (flat floatWords (distancesAt w body)) (drop 1 (gapAt w body))) (each distanceOk (distancesAt w body)) (s .4) (rules .distances)))
+      (subst T (distances-test w body) (and-i (starts (flat floatWords (distancesAt w body)) (drop 1 (gapAt w body))) (each distanceOk (distancesAt w body)) (s .5) (rules .distances)))
       (eq→eqb (sym (drop-first (recordLength c p - 1) ws) ∙ end .1)))
 
   there : T tested → T asked
-  unfolding bodyReads
+  unfolding bodyReads minuteReads
   there t =
       let d = distancesWord (c * p) in
       let l = last w body in
       let cells = everyBelow c (λ k. wellRead cellWords readCell (cellOk p n) (drop (firstCell + 7 * k) ws)) in
       let floats = everyBelow (c * p) (λ k. wellRead floatWords readDistance distanceOk (drop (firstCell + 7 * c + 1 + 2 * k) ws)) in
-      let s = five (eqb (w / 1024) 262144) (leb c candidateLimit) (eqb p (beforeOf q c)) (leb (recordLength c p) (length ws)) (bodyReads place c p n ws) t in
-      let b = five (eqb (getD ws 1 0) (predecessorWord place)) cells (eqb (getD ws (firstCell + 7 * c) 0) d) floats (eqb (getD ws (recordLength c p - 1) 0) l) (s .4) in
+      let s = five (eqb (w / 1024) 262144) (leb c candidateLimit) (eqb p (beforeOf q c)) (leb (recordLength c p) (length ws)) (bodyReads place since c p n ws) t in
+      let b = six (eqb (getD ws 1 0) (predecessorWord place)) (eqb (getD ws 2 0) ownMinute && leb since (minuteAt body)) cells (eqb (getD ws (firstCell + 7 * c) 0) d) floats (eqb (getD ws (recordLength c p - 1) 0) l) (s .4) in
       let kind = eqb→eq (w / 1024) 262144 (s .0) in
       let few = leb→le c candidateLimit (s .1) in
       let room = leb→le (recordLength c p) (length ws) (s .3) in
       let head : headWord c p ≡ w = omega arith in
-      let cell = subst T (sym (cells-test w body n)) (b .1) in
-      let float = subst T (sym (distances-test w body)) (b .3) in
-      let one-cell = starts (flat cellWords (cellsAt w body)) (drop 1 body) in
+      let cell = subst T (sym (cells-test w body n)) (b .2) in
+      let float = subst T (sym (distances-test w body)) (b .4) in
+      let one-cell = starts (flat cellWords (cellsAt w body)) (drop 2 body) in
       let one-float = starts (flat floatWords (distancesAt w body)) (drop 1 (gapAt w body)) in
-      and-i (starts (recordOf place (rowAt w body)) ws) (rowOk q n (rowAt w body))
+      and-i (starts (recordOf place (rowAt w body)) ws) (rowOk since q n (rowAt w body))
       (subst T (sym (record-starts w body place))
-      (of-six (eqb (headWord c p) w) (starts (predecessorWord place ∷ []) body) one-cell (starts (d ∷ []) (drop (firstCell + 7 * c) ws)) one-float (starts (l ∷ []) (drop (recordLength c p - 1) ws))
+      (of-seven (eqb (headWord c p) w) (starts (predecessorWord place ∷ []) body) (starts (ownMinute ∷ []) (drop 1 body)) one-cell (starts (d ∷ []) (drop (firstCell + 7 * c) ws)) one-float (starts (l ∷ []) (drop (recordLength c p - 1) ws))
       (eq→eqb head)
       (of-one (predecessorWord place) body (second room) (eqb→eq (getD ws 1 0) (predecessorWord place) (b .0)))
+      (of-one ownMinute (drop 1 body) (third room) (drop-first 1 body ∙ eqb→eq (getD ws 2 0) ownMinute (and-l (eqb (getD ws 2 0) ownMinute) (leb since (minuteAt body)) (b .1))))
       (and-l one-cell (each (cellOk p n) (cellsAt w body)) cell)
-      (of-one d (drop (firstCell + 7 * c) ws) (inside (firstCell + 7 * c) (early room)) (drop-first (firstCell + 7 * c) ws ∙ eqb→eq (getD ws (firstCell + 7 * c) 0) d (b .2)))
+      (of-one d (drop (firstCell + 7 * c) ws) (inside (firstCell + 7 * c) (early room)) (drop-first (firstCell + 7 * c) ws ∙ eqb→eq (getD ws (firstCell + 7 * c) 0) d (b .3)))
       (and-l one-float (each distanceOk (distancesAt w body)) float)
-      (of-one l (drop (recordLength c p - 1) ws) (inside (recordLength c p - 1) (late room)) (drop-first (recordLength c p - 1) ws ∙ eqb→eq (getD ws (recordLength c p - 1) 0) l (b .4)))))
-      (rules-row q n (rowAt w body) (record {
+      (of-one l (drop (recordLength c p - 1) ws) (inside (recordLength c p - 1) (late room)) (drop-first (recordLength c p - 1) ws ∙ eqb→eq (getD ws (recordLength c p - 1) 0) l (b .5)))))
+      (rules-row since q n (rowAt w body) (record {
+        minute = leb→le since (minuteAt body) (and-r (eqb (getD ws 2 0) ownMinute) (leb since (minuteAt body)) (b .1));
         few = omega (arith, size-is w body);
         before = eqb→eq p (beforeOf q c) (s .2) ∙ ap (beforeOf q) (sym (size-is w body));
         number = number-is w body ∙ ap (λ (k : ℕ). k * p) (sym (size-is w body));
@@ -285,12 +304,15 @@ module _ (place q n w : ℕ) (body : List ℕ) where
       second : recordLength c p ≤ length ws → 0 < length body
       second h = unfold recordLength in omega arith
 
+      third : recordLength c p ≤ length ws → 0 < length (drop 1 body)
+      third h = simp length-drop (unfold recordLength in omega arith)
+
       early : recordLength c p ≤ length ws → firstCell + 7 * c < length ws
       early h = unfold recordLength in omega arith
 
       late : recordLength c p ≤ length ws → recordLength c p - 1 < length ws
       late h = unfold recordLength in omega arith
 
-  pub record-test : wellRead (recordOf place) readRow (rowOk q n) ws ≡ tested
+  pub record-test : wellRead (recordOf place) readRow (rowOk since q n) ws ≡ tested
   unfolding wellRead
-  record-test = ap (λ (r : Row). starts (recordOf place r) ws && rowOk q n r) (row-is w body) ∙ same-test asked tested here there
+  record-test = ap (λ (r : Row). starts (recordOf place r) ws && rowOk since q n r) (row-is w body) ∙ same-test asked tested here there

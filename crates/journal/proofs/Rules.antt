@@ -47,6 +47,14 @@ six a b c d e f h =
 pub of-six : (a b c d e f : Bool) → T a → T b → T c → T d → T e → T f → T (a && (b && (c && (d && (e && f)))))
 of-six a b c d e f p q r s t u = and-i a (b && (c && (d && (e && f)))) p (of-five b c d e f q r s t u)
 
+pub seven : (a b c d e f g : Bool) → T (a && (b && (c && (d && (e && (f && g)))))) → T a × T b × T c × T d × T e × T f × T g
+seven a b c d e f g h =
+    let k = six b c d e f g (and-r a (b && (c && (d && (e && (f && g))))) h) in
+    (and-l a (b && (c && (d && (e && (f && g))))) h, k .0, k .1, k .2, k .3, k .4, k .5)
+
+pub of-seven : (a b c d e f g : Bool) → T a → T b → T c → T d → T e → T f → T g → T (a && (b && (c && (d && (e && (f && g))))))
+of-seven a b c d e f g p q r s t u v = and-i a (b && (c && (d && (e && (f && g))))) p (of-six b c d e f g q r s t u v)
+
 -- ---- a candidate
 
 pub record CandidateRules (n : ℕ) (c : Candidate) : Type 0 where
@@ -109,27 +117,29 @@ rules-fix n f h =
 
 -- ---- a row
 
-pub record RowRules (q n : ℕ) (r : Row) : Type 0 where
+pub record RowRules (since q n : ℕ) (r : Row) : Type 0 where
+  pub minute : since ≤ r .minute
   pub few : rowSize r ≤ candidateLimit
   pub before : r .before ≡ beforeOf q (rowSize r)
   pub number : length (r .distances) ≡ rowSize r * r .before
   pub cells : T (each (cellOk (r .before) n) (r .cells))
   pub distances : T (each distanceOk (r .distances))
 
-pub row-rules : (q n : ℕ) (r : Row) → T (rowOk q n r) → RowRules q n r
+pub row-rules : (since q n : ℕ) (r : Row) → T (rowOk since q n r) → RowRules since q n r
 unfolding rowOk
-row-rules q n r h =
-    let k = five (leb (rowSize r) candidateLimit) (eqb (r .before) (beforeOf q (rowSize r))) (eqb (length (r .distances)) (rowSize r * r .before)) (each (cellOk (r .before) n) (r .cells)) (each distanceOk (r .distances)) h in
+row-rules since q n r h =
+    let k = six (leb since (r .minute)) (leb (rowSize r) candidateLimit) (eqb (r .before) (beforeOf q (rowSize r))) (eqb (length (r .distances)) (rowSize r * r .before)) (each (cellOk (r .before) n) (r .cells)) (each distanceOk (r .distances)) h in
     record {
-      few = leb→le (rowSize r) candidateLimit (k .0);
-      before = eqb→eq (r .before) (beforeOf q (rowSize r)) (k .1);
-      number = eqb→eq (length (r .distances)) (rowSize r * r .before) (k .2);
-      cells = k .3;
-      distances = k .4;
+      minute = leb→le since (r .minute) (k .0);
+      few = leb→le (rowSize r) candidateLimit (k .1);
+      before = eqb→eq (r .before) (beforeOf q (rowSize r)) (k .2);
+      number = eqb→eq (length (r .distances)) (rowSize r * r .before) (k .3);
+      cells = k .4;
+      distances = k .5;
     }
 
-pub rules-row : (q n : ℕ) (r : Row) → RowRules q n r → T (rowOk q n r)
+pub rules-row : (since q n : ℕ) (r : Row) → RowRules since q n r → T (rowOk since q n r)
 unfolding rowOk
-rules-row q n r h =
-    of-five (leb (rowSize r) candidateLimit) (eqb (r .before) (beforeOf q (rowSize r))) (eqb (length (r .distances)) (rowSize r * r .before)) (each (cellOk (r .before) n) (r .cells)) (each distanceOk (r .distances))
-    (le→leb (rowSize r) candidateLimit (h .few)) (eq→eqb (h .before)) (eq→eqb (h .number)) (h .cells) (h .distances)
+rules-row since q n r h =
+    of-six (leb since (r .minute)) (leb (rowSize r) candidateLimit) (eqb (r .before) (beforeOf q (rowSize r))) (eqb (length (r .distances)) (rowSize r * r .before)) (each (cellOk (r .before) n) (r .cells)) (each distanceOk (r .distances))
+    (le→leb since (r .minute) (h .minute)) (le→leb (rowSize r) candidateLimit (h .few)) (eq→eqb (h .before)) (eq→eqb (h .number)) (h .cells) (h .distances)

@@ -12,8 +12,9 @@ use Rattle.journal.specs.Lists.{flat}
 use Rattle.journal.specs.Row.{Cell, Row, noCandidate, noCell, rowSize}
 use Rattle.journal.specs.inner.Row.{cellsOf, CellWritable}
 use Rattle.journal.specs.declared.record.Candidate.{Candidate}
-use Rattle.journal.specs.Record.{headWord, lengthWord, predecessorWord, usedWord, firstCell, cellWords, distancesWords, recordLength, recordOf}
-use Rattle.journal.proofs.Lists.{length-flat, flat-append, length-number, getD-number}
+use Rattle.journal.specs.Record.{headWord, lengthWord, predecessorWord, minuteWord, usedWord, firstCell, cellWords, distancesWords, recordLength, recordOf}
+use Rattle.lists.proofs.Lists.{length-number, getD-number}
+use Rattle.journal.proofs.Lists.{length-flat, flat-append}
 use Rattle.journal.specs.Journal.{put}
 use Rattle.journal.proofs.Reading.{length-cells, length-floats, length-record}
 
@@ -53,10 +54,10 @@ stored-turn l i m k part xs d h e =
     let more : flat part (take (k + 1) xs) ≡ flat part (take k xs) ++ part (getD xs k d) = rw (add-one, take-suc xs k d e, flat-append part (take k xs) (getD xs k d ∷ []), append-nil) in
     sym (rw (more, sets-append l i (flat part (take k xs)) (part (getD xs k d)), long))
 
--- two head words, two parts and a last word, stored in turn
-five-parts : (l : List ℕ) (h g w n m : ℕ) (xs ys : List ℕ) → length xs ≡ n → length ys ≡ m
-    → set (sets (sets (set (set l 0 h) 1 g) 2 xs) (2 + n) ys) (2 + n + m) w ≡ sets l 0 (h ∷ g ∷ (xs ++ (ys ++ (w ∷ []))))
-five-parts l h g w n m xs ys e f = rw (← e, ← f, sets-append (set (set l 0 h) 1 g) 2 xs (ys ++ (w ∷ [])), sets-append _ _ ys (w ∷ []))
+-- three head words, two parts and a last word, stored in turn
+six-parts : (l : List ℕ) (h g t w n m : ℕ) (xs ys : List ℕ) → length xs ≡ n → length ys ≡ m
+    → set (sets (sets (set (set (set l 0 h) 1 g) 2 t) 3 xs) (3 + n) ys) (3 + n + m) w ≡ sets l 0 (h ∷ g ∷ t ∷ (xs ++ (ys ++ (w ∷ []))))
+six-parts l h g t w n m xs ys e f = rw (← e, ← f, sets-append (set (set (set l 0 h) 1 g) 2 t) 3 xs (ys ++ (w ∷ [])), sets-append _ _ ys (w ∷ []))
 
 -- the cells of a row that is written
 module _ (cs : List Candidate) (parents : List ℕ) (scores : List Float) where
@@ -86,21 +87,21 @@ module _ (cs : List Candidate) (parents : List ℕ) (scores : List Float) where
       ∙ ap (λ (x : Cell). sets (sets l firstCell (flat cellWords (take k (cellsOf cs parents scores)))) (firstCell + 7 * k) (cellWords x)) (ap (cell k) own ∙ sym (cell-at k h))
       ∙ stored-turn l firstCell 7 k cellWords (cellsOf cs parents scores) noCell (λ c. refl) (rw cells-many h)
 
--- head word, predecessor's place, cells, distances and record length, stored in turn, are the record
+-- head word, predecessor's place, minute, cells, distances and record length, stored in turn, are the record
 module _ (l cells whole : List ℕ) (place : ℕ) (r : Row) (number : length (r .distances) ≡ rowSize r * r .before) where
   stored : (len : ℕ) → len ≡ recordLength (rowSize r) (r .before)
-      → cells ≡ sets (set (set l 0 (headWord (rowSize r) (r .before))) 1 (predecessorWord place)) firstCell (flat cellWords (r .cells))
+      → cells ≡ sets (set (set (set l 0 (headWord (rowSize r) (r .before))) 1 (predecessorWord place)) 2 (minuteWord (r .minute))) firstCell (flat cellWords (r .cells))
       → whole ≡ sets cells (firstCell + 7 * rowSize r) (distancesWords (r .distances))
       → set whole (len - 1) (lengthWord len) ≡ sets l 0 (recordOf place r)
   unfolding recordOf
   stored len e f h =
       let at : len - 1 ≡ firstCell + 7 * rowSize r + suc (2 * length (r .distances)) = unfold recordLength in omega arith in
       rw (at, h, f, e)
-      (five-parts l (headWord (rowSize r) (r .before)) (predecessorWord place) _ (7 * rowSize r) (suc (2 * length (r .distances))) (flat cellWords (r .cells)) (distancesWords (r .distances)) (length-cells (r .cells)) (ap suc (length-floats (r .distances))))
+      (six-parts l (headWord (rowSize r) (r .before)) (predecessorWord place) (minuteWord (r .minute)) _ (7 * rowSize r) (suc (2 * length (r .distances))) (flat cellWords (r .cells)) (distancesWords (r .distances)) (length-cells (r .cells)) (ap suc (length-floats (r .distances))))
 
   -- the cells are counted elsewhere
   pub row-stored : (n : ℕ) → rowSize r ≡ n → (len : ℕ) → len ≡ recordLength n (r .before)
-      → cells ≡ sets (set (set l 0 (headWord n (r .before))) 1 (predecessorWord place)) firstCell (flat cellWords (r .cells))
+      → cells ≡ sets (set (set (set l 0 (headWord n (r .before))) 1 (predecessorWord place)) 2 (minuteWord (r .minute))) firstCell (flat cellWords (r .cells))
       → whole ≡ sets cells (firstCell + 7 * n) (distancesWords (r .distances))
       → set whole (len - 1) (lengthWord len) ≡ sets l 0 (recordOf place r)
   row-stored n e = rw (← e) stored

@@ -2,10 +2,10 @@
 use Prim.Native.Nat.{ℕ, _+_, _*_, _/_, _%_, _<_, _≤_}
 use native.Mathlib.Omega.{arith}
 use native.Mathlib.Nat.{add-zero, add-assoc}
-use mathlib.Core.Path.{_≡_, ap, _∙_, subst}
+use mathlib.Core.Path.{_≡_, sym, ap, _∙_, subst}
 use mathlib.Core.Bool.{Bool, not, _&&_, _||_, and-assoc}
 use mathlib.Core.List.{List, [], _∷_, _++_}
-use lib.Dec.{T, eqb, eqb→eq}
+use lib.Dec.{T, eqb, leb, eqb→eq}
 use borrow.Author.Tests.{lt-ltb, le-leb}
 use lib.ListN.{length, getD, drop, length-drop}
 use lib.Seq.{getD-drop}
@@ -19,8 +19,8 @@ use Rattle.binary64.proofs.Ranges.{range-number, clear-range-range}
 use Rattle.journal.specs.Lists.{starts}
 use Rattle.journal.specs.Row.{Cell}
 use Rattle.journal.specs.Ranges.{elementLimit, intrinsicOk, rawLogOk, scoreOk, parentOk, distanceOk, candidateOk, cellOk}
-use Rattle.journal.specs.Record.{candidateWord, highHalf, lowHalf, cellWords, floatWords, readFloat, floatAt, readCell, readDistance}
-use Rattle.journal.specs.inner.Check.{wellRead}
+use Rattle.journal.specs.Record.{candidateWord, highHalf, lowHalf, cellWords, floatWords, readFloat, floatAt, readCell, readDistance, readMinute}
+use Rattle.journal.specs.inner.Check.{wellRead, minuteReads}
 use Rattle.journal.proofs.Lists.{starts-self}
 use Rattle.journal.proofs.Rules.{candidate-rules, cell-rules}
 
@@ -30,6 +30,25 @@ Words ws = (k : ℕ) → getD ws k 0 < 4294967296
 
 pub drop-words : (n : ℕ) (ws : List ℕ) → Words ws → Words (drop n ws)
 drop-words n ws h k = rw (getD-drop n ws k 0) (h (n + k))
+
+-- ---- a word's kind, and a minute
+
+-- the top four bits are the kind, whatever the 28 bits below
+pub kind-word : (kind w : ℕ) → eqb w (268435456 * kind + w % 268435456) ≡ eqb (w / 268435456) kind
+kind-word kind w =
+    same-test (eqb w (268435456 * kind + w % 268435456)) (eqb (w / 268435456) kind)
+    (λ t. eq→eqb (top (eqb→eq w (268435456 * kind + w % 268435456) t))) (λ t. eq→eqb (whole (eqb→eq (w / 268435456) kind t)))
+  where
+    top : w ≡ 268435456 * kind + w % 268435456 → w / 268435456 ≡ kind
+    top e = omega arith
+
+    whole : w / 268435456 ≡ kind → w ≡ 268435456 * kind + w % 268435456
+    whole e = omega arith
+
+-- by what the test of the kind gives
+pub minute-by : (since w : ℕ) (a : Bool) → eqb (w / 268435456) 8 ≡ a → a && leb since (readMinute w) ≡ minuteReads since w
+unfolding minuteReads
+minute-by since w a e = sym (ap (λ (b : Bool). b && leb since (readMinute w)) (kind-word 8 w ∙ e))
 
 -- ---- a float that is no NaN is read from its own words
 

@@ -6,13 +6,13 @@ use mathlib.Core.Path.{_≡_, refl, sym, ap, _∙_}
 use mathlib.Core.Bool.{Bool, true, false, _&&_, cond}
 use mathlib.Core.List.{List, [], _∷_}
 use mathlib.Core.Option.{Option, none, some}
-use lib.Dec.{T, eqb, leb, eqb→eq}
+use lib.Dec.{T, eqb, leb}
 use lib.ListN.{length, getD, take, drop, length-append, length-drop, drop-of-length-le}
 use lib.Seq.{drop-drop}
-use lib.Ieee.Fits.{and-l, and-r, eq→eqb}
-use Rattle.binary64.proofs.Order.{taken, same-test}
+use lib.Ieee.Fits.{and-l, and-r}
+use Rattle.binary64.proofs.Order.{taken}
 use Rattle.journal.specs.Lists.{starts}
-use Rattle.journal.specs.Row.{Row, rowSize, scores, predecessor, sizeOf}
+use Rattle.journal.specs.Row.{Row, rowSize, scores, predecessor, sizeOf, latestMinute}
 use Rattle.journal.specs.Ranges.{candidateLimit, rowLimit}
 use Rattle.journal.specs.Record.{usedWord, readRow}
 use Rattle.journal.specs.Journal.{words, predecessorPlace, recordOn, rowOk, recordOk, readRows, used, usedWords, readJournal}
@@ -25,6 +25,7 @@ use Rattle.journal.proofs.Lists.{starts-split}
 use Rattle.journal.proofs.Rules.{row-rules}
 use Rattle.journal.proofs.Reading.{record-least, read-at, read-end}
 use Rattle.journal.proofs.Stores.{take-rest}
+use Rattle.journal.proofs.Tests.{kind-word}
 
 -- ---- the predecessor
 
@@ -54,7 +55,7 @@ unfolding words predecessorPlace
 place-inside [] = omega arith
 place-inside (r ∷ rs) = simp length-append (go (scores r) (record-least (predecessorPlace rs) r) (place-inside rs))
   where
-    go : (b : Bool) → 4 ≤ length (recordOn rs r) → predecessorPlace rs ≤ length (words rs) → cond b (suc (length (words rs))) (predecessorPlace rs) ≤ length (words rs) + length (recordOn rs r)
+    go : (b : Bool) → 5 ≤ length (recordOn rs r) → predecessorPlace rs ≤ length (words rs) → cond b (suc (length (words rs))) (predecessorPlace rs) ≤ length (words rs) + length (recordOn rs r)
     go true l ih = omega arith
     go false l ih = omega arith
 
@@ -85,59 +86,60 @@ latest-new r rs = refl
 
 -- ---- one record
 
-whole-bad : {A : Type 0} {l c : ℕ} {s : Bool} → Bad ≡ Whole l c s → A
+whole-bad : {A : Type 0} {l c m : ℕ} {s : Bool} → Bad ≡ Whole l c s m → A
 whole-bad e = let z : _≡_ {A = ℕ} 0 1 = cc in absurd (omega arith)
 
 module _ (rs : List Row) (ws : List ℕ) where
   abbrev passes : Bool
   passes = recordOk rs (readRow ws) ws
 
-  is-ok : recordAt (predecessorPlace rs) (sizeOf (predecessor rs)) (length rs) ws ≡ cond passes (Whole (length (recordOn rs (readRow ws))) (rowSize (readRow ws)) (scores (readRow ws))) Bad
+  is-ok : recordAt (predecessorPlace rs) (latestMinute rs) (sizeOf (predecessor rs)) (length rs) ws ≡ cond passes (Whole (length (recordOn rs (readRow ws))) (rowSize (readRow ws)) (scores (readRow ws)) (readRow ws .minute)) Bad
   unfolding recordAt wellRead
   is-ok = refl
 
   -- what a whole record is
-  pub record Found (l c : ℕ) (s : Bool) : Type 0 where
+  pub record Found (l c : ℕ) (s : Bool) (m : ℕ) : Type 0 where
     pub long : l ≡ length (recordOn rs (readRow ws))
     pub many : c ≡ rowSize (readRow ws)
     pub score : s ≡ scores (readRow ws)
+    pub minute : m ≡ readRow ws .minute
     pub ok : T (recordOk rs (readRow ws) ws)
 
-  found : (l c : ℕ) (s : Bool) → recordAt (predecessorPlace rs) (sizeOf (predecessor rs)) (length rs) ws ≡ Whole l c s → Found l c s
-  found l c s e = go passes refl (sym is-ok ∙ e)
+  found : (l c : ℕ) (s : Bool) (m : ℕ) → recordAt (predecessorPlace rs) (latestMinute rs) (sizeOf (predecessor rs)) (length rs) ws ≡ Whole l c s m → Found l c s m
+  found l c s m e = go passes refl (sym is-ok ∙ e)
     where
-      go : (b : Bool) → passes ≡ b → cond b (Whole (length (recordOn rs (readRow ws))) (rowSize (readRow ws)) (scores (readRow ws))) Bad ≡ Whole l c s → Found l c s
-      go true q k = record { long = cc; many = cc; score = cc; ok = taken q }
+      go : (b : Bool) → passes ≡ b → cond b (Whole (length (recordOn rs (readRow ws))) (rowSize (readRow ws)) (scores (readRow ws)) (readRow ws .minute)) Bad ≡ Whole l c s m → Found l c s m
+      go true q k = record { long = cc; many = cc; score = cc; minute = cc; ok = taken q }
       go false q k = whole-bad k
 
-  bad : recordAt (predecessorPlace rs) (sizeOf (predecessor rs)) (length rs) ws ≡ Bad → recordOk rs (readRow ws) ws ≡ false
+  bad : recordAt (predecessorPlace rs) (latestMinute rs) (sizeOf (predecessor rs)) (length rs) ws ≡ Bad → recordOk rs (readRow ws) ws ≡ false
   bad e = go passes refl (sym is-ok ∙ e)
     where
-      go : (b : Bool) → passes ≡ b → cond b (Whole (length (recordOn rs (readRow ws))) (rowSize (readRow ws)) (scores (readRow ws))) Bad ≡ Bad → passes ≡ false
+      go : (b : Bool) → passes ≡ b → cond b (Whole (length (recordOn rs (readRow ws))) (rowSize (readRow ws)) (scores (readRow ws)) (readRow ws .minute)) Bad ≡ Bad → passes ≡ false
       go true q k = whole-bad (sym k)
       go false q k = q
 
-  -- a record lies within the words, and has four at least
-  fits : T (recordOk rs (readRow ws) ws) → (4 ≤ length (recordOn rs (readRow ws))) × (length (recordOn rs (readRow ws)) ≤ length ws)
+  -- a record lies within the words, and has five at least
+  fits : T (recordOk rs (readRow ws) ws) → (5 ≤ length (recordOn rs (readRow ws))) × (length (recordOn rs (readRow ws)) ≤ length ws)
   fits t =
-      let split = starts-split (recordOn rs (readRow ws)) ws (and-l (starts (recordOn rs (readRow ws)) ws) (rowOk (sizeOf (predecessor rs)) (length rs) (readRow ws)) t) in
+      let split = starts-split (recordOn rs (readRow ws)) ws (and-l (starts (recordOn rs (readRow ws)) ws) (rowOk (latestMinute rs) (sizeOf (predecessor rs)) (length rs) (readRow ws)) t) in
       (record-least (predecessorPlace rs) (readRow ws), omega (arith, simp length-append at (ap length split)))
 
   -- its row is within the limit of candidates
   few : T (recordOk rs (readRow ws) ws) → rowSize (readRow ws) ≤ candidateLimit
   few t =
-      let obeys = and-r (starts (recordOn rs (readRow ws)) ws) (rowOk (sizeOf (predecessor rs)) (length rs) (readRow ws)) t in
-      row-rules (sizeOf (predecessor rs)) (length rs) (readRow ws) obeys .few
+      let obeys = and-r (starts (recordOn rs (readRow ws)) ws) (rowOk (latestMinute rs) (sizeOf (predecessor rs)) (length rs) (readRow ws)) t in
+      row-rules (latestMinute rs) (sizeOf (predecessor rs)) (length rs) (readRow ws) obeys .few
 
 -- ---- the walk
 
 -- what the row reader is asked, which is lent `&journal[at..]`
-pub record-asked : (journal : List ℕ) (latest : Predecessor) (at rows place q : ℕ) → place ≡ placeOf latest → q ≡ candidatesOf latest
-    → recordAt (placeOf latest) (candidatesOf latest) rows (drop at journal) ≡ recordAt place q rows (take (length journal - at) (drop at journal))
-record-asked journal latest at rows place q e f = rw (e, f, take-rest at journal)
+pub record-asked : (journal : List ℕ) (latest : Predecessor) (reached at rows place q : ℕ) → place ≡ placeOf latest → q ≡ candidatesOf latest
+    → recordAt (placeOf latest) reached (candidatesOf latest) rows (drop at journal) ≡ recordAt place reached q rows (take (length journal - at) (drop at journal))
+record-asked journal latest reached at rows place q e f = rw (e, f, take-rest at journal)
 
--- at a place of the used words, with so many rows read and this predecessor of a further one
-pub record Walked (journal : List ℕ) (at rows : ℕ) (latest : Predecessor) : Type 0 where
+-- at a place of the used words, with so many rows read, this predecessor of a further one, and the last at the minute `reached`
+pub record Walked (journal : List ℕ) (at rows : ℕ) (latest : Predecessor) (reached : ℕ) : Type 0 where
   pub standing : List Row
   pub counted : length standing ≡ rows
   pub few : rows ≤ rowLimit
@@ -145,9 +147,10 @@ pub record Walked (journal : List ℕ) (at rows : ℕ) (latest : Predecessor) : 
   pub inside : at ≤ length journal
   pub last : latestOf standing ≡ latest
   pub size : candidatesOf latest ≤ candidateLimit
+  pub minute : latestMinute standing ≡ reached
   pub left : readRows (rowLimit - rows) standing (drop at journal) ≡ readRows rowLimit [] (drop 1 journal)
 
-pub walked-start : (journal : List ℕ) → 1 ≤ length journal → Walked journal 1 0 Nothing
+pub walked-start : (journal : List ℕ) → 1 ≤ length journal → Walked journal 1 0 Nothing 0
 walked-start journal h = record {
   standing = [];
   counted = refl;
@@ -156,15 +159,16 @@ walked-start journal h = record {
   inside = h;
   last = unfold latestOf in refl;
   size = omega arith;
+  minute = refl;
   left = refl;
 }
 
-module _ (journal : List ℕ) (at rows : ℕ) (latest : Predecessor) (w : Walked journal at rows latest) where
+module _ (journal : List ℕ) (at rows : ℕ) (latest : Predecessor) (reached : ℕ) (w : Walked journal at rows latest reached) where
   -- as the row reader is asked
-  asked : recordAt (placeOf latest) (candidatesOf latest) rows (drop at journal) ≡ recordAt (predecessorPlace (w .standing)) (sizeOf (predecessor (w .standing))) (length (w .standing)) (drop at journal)
+  asked : recordAt (placeOf latest) reached (candidatesOf latest) rows (drop at journal) ≡ recordAt (predecessorPlace (w .standing)) (latestMinute (w .standing)) (sizeOf (predecessor (w .standing))) (length (w .standing)) (drop at journal)
   asked =
-      ap (λ (x : Predecessor). recordAt (placeOf x) (candidatesOf x) rows (drop at journal)) (sym (w .last))
-      ∙ rw (latest-size (w .standing), latest-place (w .standing), ← w .counted)
+      ap (λ (x : Predecessor). recordAt (placeOf x) reached (candidatesOf x) rows (drop at journal)) (sym (w .last))
+      ∙ rw (latest-size (w .standing), latest-place (w .standing), ← w .counted, ← w .minute)
 
   -- a place that a word of kind 7 has bits for, where the journal's length has
   pub walked-place : length journal < 268435456 → placeOf latest < 268435456
@@ -191,7 +195,7 @@ module _ (journal : List ℕ) (at rows : ℕ) (latest : Predecessor) (w : Walked
       one-more = omega arith
 
       -- no record
-      pub walked-bad : recordAt (placeOf latest) (candidatesOf latest) rows (drop at journal) ≡ Bad → surveyOf (length journal) (readRows rowLimit [] (drop 1 journal)) ≡ NotWellFormed
+      pub walked-bad : recordAt (placeOf latest) reached (candidatesOf latest) rows (drop at journal) ≡ Bad → surveyOf (length journal) (readRows rowLimit [] (drop 1 journal)) ≡ NotWellFormed
       walked-bad e =
           ap (surveyOf (length journal))
           (sym (w .left) ∙ ap (λ (n : ℕ). readRows n (w .standing) (drop at journal)) one-more
@@ -202,17 +206,17 @@ module _ (journal : List ℕ) (at rows : ℕ) (latest : Predecessor) (w : Walked
           broken n rs (x ∷ ws) h q = unfold readRows in rw q
 
       -- a record: its length, and the walk past it
-      module _ (l c : ℕ) (s : Bool) (e : recordAt (placeOf latest) (candidatesOf latest) rows (drop at journal) ≡ Whole l c s) where
-        one-found : Found (w .standing) (drop at journal) l c s
-        one-found = found (w .standing) (drop at journal) l c s (sym asked ∙ e)
+      module _ (l c : ℕ) (s : Bool) (m : ℕ) (e : recordAt (placeOf latest) reached (candidatesOf latest) rows (drop at journal) ≡ Whole l c s m) where
+        one-found : Found (w .standing) (drop at journal) l c s m
+        one-found = found (w .standing) (drop at journal) l c s m (sym asked ∙ e)
 
-        pub walked-room : (4 ≤ l) × (at + l ≤ length journal)
+        pub walked-room : (5 ≤ l) × (at + l ≤ length journal)
         walked-room =
             let f = one-found in
             let g = fits (w .standing) (drop at journal) (f .ok) in
             (omega (arith, f .long, g .0), omega (arith, f .long, g .1, length-drop at journal))
 
-        pub walked-turn : Walked journal (at + l) (rows + 1) (cond s (At at rows c) latest)
+        pub walked-turn : Walked journal (at + l) (rows + 1) (cond s (At at rows c) latest) m
         walked-turn =
             let f = one-found in
             let r = readRow (drop at journal) in
@@ -224,6 +228,7 @@ module _ (journal : List ℕ) (at rows : ℕ) (latest : Predecessor) (w : Walked
               inside = walked-room .1;
               last = latest-new r (w .standing) ∙ picked r (f .many) (f .score);
               size = small s;
+              minute = sym (f .minute);
               left = sym (ap (λ (n : ℕ). readRows n (w .standing) (drop at journal)) one-more
                   ∙ read-at (rowLimit - (rows + 1)) (w .standing) r (drop at journal) some-left refl (f .ok)
                   ∙ ap (λ (n : ℕ). readRows (rowLimit - (rows + 1)) (r ∷ w .standing) (drop n (drop at journal))) (sym (f .long))
@@ -242,23 +247,17 @@ module _ (journal : List ℕ) (at rows : ℕ) (latest : Predecessor) (w : Walked
             picked r a b = cc (w .placed, w .counted, w .last)
 
   -- the end of the used words
-  pub walked-end : length journal ≤ at → surveyOf (length journal) (readRows rowLimit [] (drop 1 journal)) ≡ WellFormed rows at latest
+  pub walked-end : length journal ≤ at → surveyOf (length journal) (readRows rowLimit [] (drop 1 journal)) ≡ WellFormed rows at latest reached
   walked-end h =
       let ended : readRows rowLimit [] (drop 1 journal) ≡ some (w .standing) = sym (w .left) ∙ ap (readRows (rowLimit - rows) (w .standing)) (drop-of-length-le journal h) ∙ read-end (rowLimit - rows) (w .standing) in
       let all : length journal ≡ at = omega (arith, w .inside) in
-      ap (surveyOf (length journal)) ended ∙ cc (w .counted, w .last)
+      ap (surveyOf (length journal)) ended ∙ cc (w .counted, w .last, w .minute)
 
 -- ---- word 0
 
 -- kind 5
 used-kind : (w : ℕ) → eqb w (usedWord (w % 268435456)) ≡ eqb (w / 268435456) 5
-used-kind w = same-test (eqb w (usedWord (w % 268435456))) (eqb (w / 268435456) 5) (λ t. kind (eqb→eq w (usedWord (w % 268435456)) t)) (λ t. word (eqb→eq (w / 268435456) 5 t))
-  where
-    kind : w ≡ usedWord (w % 268435456) → T (eqb (w / 268435456) 5)
-    kind e = let d : w / 268435456 ≡ 5 = omega arith in eq→eqb d
-
-    word : w / 268435456 ≡ 5 → T (eqb w (usedWord (w % 268435456)))
-    word e = let d : w ≡ usedWord (w % 268435456) = omega arith in eq→eqb d
+used-kind w = kind-word 5 w
 
 -- by what each test of word 0 gives
 pub survey-by : (s : List ℕ) (a b d : Bool) → eqb (getD s 0 0 / 268435456) 5 ≡ a → leb 1 (used s) ≡ b → leb (used s) (length s) ≡ d

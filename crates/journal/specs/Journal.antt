@@ -8,7 +8,7 @@ use lib.Dec.{leb, eqb}
 use lib.ListN.{length, getD, take, drop, set}
 use lib.Seq.{sets}
 use Rattle.journal.specs.Lists.{each, starts}
-use Rattle.journal.specs.Row.{Row, rowSize, scores, predecessor, sizeOf, beforeOf}
+use Rattle.journal.specs.Row.{Row, rowSize, scores, predecessor, sizeOf, latestMinute, beforeOf}
 use Rattle.journal.specs.Ranges.{candidateLimit, rowLimit, distanceOk, cellOk}
 use Rattle.journal.specs.Record.{usedWord, recordOf, readRow}
 
@@ -37,16 +37,17 @@ put s n own = set (sets s n own) 0 (usedWord (n + length own))
 
 -- ---- well formed
 
--- row number n, whose predecessor has q candidates, obeys the rules
-unfoldable pub rowOk : ℕ → ℕ → Row → Bool
-rowOk q n r =
-    leb (rowSize r) candidateLimit
+-- row number n, after a row of the minute `since`, on a predecessor of q candidates, obeys the rules
+unfoldable pub rowOk : ℕ → ℕ → ℕ → Row → Bool
+rowOk since q n r =
+    leb since (r .minute)
+    && (leb (rowSize r) candidateLimit
     && (eqb (r .before) (beforeOf q (rowSize r))
-    && (eqb (length (r .distances)) (rowSize r * r .before) && (each (cellOk (r .before) n) (r .cells) && each distanceOk (r .distances))))
+    && (eqb (length (r .distances)) (rowSize r * r .before) && (each (cellOk (r .before) n) (r .cells) && each distanceOk (r .distances)))))
 
 -- the words hold the row's record, and it obeys the rules on the rows before it
 abbrev pub recordOk : List Row → Row → List ℕ → Bool
-recordOk rs r ws = starts (recordOn rs r) ws && rowOk (sizeOf (predecessor rs)) (length rs) r
+recordOk rs r ws = starts (recordOn rs r) ws && rowOk (latestMinute rs) (sizeOf (predecessor rs)) (length rs) r
 
 -- the rows of the words that follow word 0, on rows already read; at most n more rows
 unfoldable pub readRows : ℕ → List Row → List ℕ → Option (List Row)

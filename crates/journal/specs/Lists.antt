@@ -1,5 +1,5 @@
 -- Lists taken apart from the front.
-use Prim.Native.Nat.{ℕ, suc}
+use Prim.Native.Nat.{ℕ}
 use mathlib.Core.Bool.{Bool, true, false, _&&_}
 use mathlib.Core.List.{List, [], _∷_, _++_}
 use lib.Dec.{eqb}
@@ -13,11 +13,6 @@ each test (a ∷ l) = test a && each test l
 abbrev pub flat : {A : Type 0} → (A → List ℕ) → List A → List ℕ
 flat part [] = []
 flat part (a ∷ l) = part a ++ flat part l
-
--- each entry with its number, from k
-unfoldable pub number : {A B : Type 0} → (ℕ → A → B) → ℕ → List A → List B
-number g k [] = []
-number g k (a ∷ l) = g k a ∷ number g (suc k) l
 
 -- the words ws begin with xs
 abbrev pub starts : List ℕ → List ℕ → Bool

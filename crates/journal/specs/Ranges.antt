@@ -19,6 +19,10 @@ elementLimit = 1024
 abbrev pub rowLimit : ℕ
 rowLimit = 65535
 
+-- minutes are below: they have 28 bits
+abbrev pub minuteLimit : ℕ
+minuteLimit = 268435456
+
 -- 0 to 1, sign bit clear
 unfoldable pub intrinsicOk : Float → Bool
 intrinsicOk x = inClearRange pzero pone x

@@ -1,4 +1,4 @@
--- Document 01, "Journal": a row's record in 32-bit words, and what is read from one.
+-- Document 01, "Journal" (kinds 7 and 8: document 02, K1 and K4): a row's record in 32-bit words, and what is read from one.
 use Prim.Native.Nat.{ℕ, zero, suc, _+_, _*_, _/_, _%_}
 use mathlib.Core.List.{List, [], _∷_, _++_}
 use lib.ListN.{length, getD, drop}
@@ -15,6 +15,10 @@ headWord c p = 0x10000000 + c + 32 * p
 -- kind 7: where the predecessor's head word stands, counted from word 0, or 0 for none (28)
 abbrev pub predecessorWord : ℕ → ℕ
 predecessorWord place = 0x70000000 + place
+
+-- kind 8: the row's minute (28)
+abbrev pub minuteWord : ℕ → ℕ
+minuteWord minute = 0x80000000 + minute
 
 -- kind 2: element (10), near (1), parent (5)
 abbrev pub candidateWord : ℕ → ℕ → ℕ → ℕ
@@ -44,13 +48,13 @@ floatWords x = highHalf x ∷ lowHalf x ∷ []
 
 -- ---- a row's record
 
--- its head: the counts, and the predecessor's place
+-- its head: the counts, the predecessor's place, and the minute
 abbrev pub headOf : ℕ → Row → List ℕ
-headOf place r = headWord (rowSize r) (r .before) ∷ predecessorWord place ∷ []
+headOf place r = headWord (rowSize r) (r .before) ∷ predecessorWord place ∷ minuteWord (r .minute) ∷ []
 
 -- where its first candidate's words start, past the head
 abbrev pub firstCell : ℕ
-firstCell = 2
+firstCell = 3
 
 abbrev pub cellWords : Cell → List ℕ
 cellWords c =
@@ -64,7 +68,7 @@ distancesWords ds = distancesWord (length ds) ∷ flat floatWords ds
 
 -- the record length of c candidates with p predecessor candidates
 unfoldable pub recordLength : ℕ → ℕ → ℕ
-recordLength c p = 7 * c + 2 * (c * p) + 4
+recordLength c p = 7 * c + 2 * (c * p) + 5
 
 -- of a row whose predecessor's record starts at `place`
 unfoldable pub recordOf : ℕ → Row → List ℕ
@@ -107,10 +111,19 @@ headCount w = w % 32
 abbrev pub headBefore : ℕ → ℕ
 headBefore w = w / 32 % 32
 
+-- the minute of a word of kind 8
+abbrev pub readMinute : ℕ → ℕ
+readMinute w = w % 268435456
+
 -- the row of the record that starts with the first word
 unfoldable pub readRow : List ℕ → Row
 readRow ws =
     let c = headCount (getD ws 0 0) in
     let p = headBefore (getD ws 0 0) in
     let body = drop firstCell ws in
-    record { cells = readEach readCell 7 c body; before = p; distances = readEach readDistance 2 (c * p) (drop 1 (drop (7 * c) body)) }
+    record {
+      minute = readMinute (getD ws 2 0);
+      cells = readEach readCell 7 c body;
+      before = p;
+      distances = readEach readDistance 2 (c * p) (drop 1 (drop (7 * c) body));
+    }

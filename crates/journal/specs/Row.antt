@@ -1,4 +1,4 @@
--- Document 01, "Fix and row": fixes, and rows as the journal holds them. Lists of fixes and of rows are newest first, so that a feed is ∷ and a
+-- Document 01, "Fix and row" (the minute: document 02, K4): fixes, and rows as the journal holds them. Lists of fixes and of rows are newest first, so that a feed is ∷ and a
 -- strike is drop.
 use Prim.Native.Nat.{ℕ, _+_, _*_}
 use mathlib.Core.Bool.{Bool, true, cond}
@@ -10,11 +10,12 @@ use lib.Ieee.{Float, nan, inf}
 use lib.Ieee.Scale.{finite}
 use Rattle.lists.specs.Loops.{anyBelow}
 use Rattle.binary64.specs.Values.{pzero}
-use Rattle.journal.specs.Lists.{number}
+use Rattle.lists.specs.Lists.{number}
 use Rattle.journal.specs.declared.record.Candidate.{Candidate}
 
 -- a distance for each pair, predecessor candidate outer, own candidate inner
 pub record Fix : Type 0 where
+  pub minute : ℕ
   pub candidates : List Candidate
   pub distances : List Float
 
@@ -24,8 +25,9 @@ pub record Cell : Type 0 where
   pub parent : ℕ
   pub score : Float
 
--- its cells, the number of predecessor candidates and the distances
+-- its minute, its cells, the number of predecessor candidates and the distances
 pub record Row : Type 0 where
+  pub minute : ℕ
   pub cells : List Cell
   pub before : ℕ
   pub distances : List Float
@@ -82,13 +84,19 @@ abbrev pub sizeOf : Option Row → ℕ
 sizeOf none = 0
 sizeOf (some p) = rowSize p
 
+-- the minute of the latest of these rows, which may be an empty one; 0 without any
+abbrev pub latestMinute : List Row → ℕ
+latestMinute [] = 0
+latestMinute (r ∷ rs) = r .minute
+
 -- how many predecessor candidates a row of c candidates counts where its predecessor has q: none without candidates
 abbrev pub beforeOf : ℕ → ℕ → ℕ
 beforeOf q c = cond (eqb c 0) 0 q
 
--- ---- a fix as it is handed over, a list for each field
+-- ---- a fix as it is handed over, a minute and a list for each field
 
 pub record Given : Type 0 where
+  pub minute : ℕ
   pub elements : List ℕ
   pub intrinsics : List Float
   pub near : List ℕ
@@ -100,14 +108,16 @@ abbrev pub candidateGiven : Given → ℕ → ℕ → Candidate
 candidateGiven g i e = record { element = e; intrinsic = getD (g .intrinsics) i nan; near = getD (g .near) i 0; «raw_log» = getD (g .rawLogs) i nan }
 
 unfoldable pub fixGiven : Given → Fix
-fixGiven g = record { candidates = number (candidateGiven g) 0 (g .elements); distances = g .distances }
+fixGiven g = record { minute = g .minute; candidates = number (candidateGiven g) 0 (g .elements); distances = g .distances }
 
-abbrev pub givenOf : List ℕ → List Float → List ℕ → List Float → List Float → Given
-givenOf elements intrinsics near rawLogs distances = record { elements = elements; intrinsics = intrinsics; near = near; rawLogs = rawLogs; distances = distances }
+abbrev pub givenOf : ℕ → List ℕ → List Float → List ℕ → List Float → List Float → Given
+givenOf minute elements intrinsics near rawLogs distances =
+    record { minute = minute; elements = elements; intrinsics = intrinsics; near = near; rawLogs = rawLogs; distances = distances }
 
--- the lists that a fix was made of
+-- the minute and the lists that a fix was made of
 unfoldable pub handed : Fix → Given
 handed f = record {
+  minute = f .minute;
   elements = map (λ (c : Candidate). c .element) (f .candidates);
   intrinsics = map (λ (c : Candidate). c .intrinsic) (f .candidates);
   near = map (λ (c : Candidate). c .near) (f .candidates);

@@ -56,6 +56,7 @@ pub fn strike(journal: &mut [u32], n: u32) -> Answer
             rows,
             used: _,
             latest: _,
+            minute: _,
         } => {
             if rows < n as usize {
                 return Answer::Refused(13);
@@ -78,6 +79,7 @@ pub fn predecessor(journal: &[u32]) -> Preceding
             rows: _,
             used: _,
             latest,
+            minute: _,
         } => match latest {
             Predecessor::Nothing => Preceding::Nothing,
             Predecessor::At {

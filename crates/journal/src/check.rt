@@ -21,13 +21,14 @@ pub enum Predecessor {
     },
 }
 
-// What check 7 finds: the number of rows, of used words, and the predecessor of a further row.
+// What check 7 finds: the number of rows, of used words, the predecessor of a further row, and the minute of the last one, or 0.
 pub enum Survey {
     NotWellFormed,
     WellFormed {
         rows: usize,
         used: usize,
         latest: Predecessor,
+        minute: u32,
     },
 }
 
@@ -88,6 +89,7 @@ pub fn walk(journal: &[u32]) -> Survey
     let mut at = 1;
     let mut rows = 0;
     let mut latest = Predecessor::Nothing;
+    let mut reached = 0;
     while at < journal.len() {
         if rows == 65535 {
             return Survey::NotWellFormed;
@@ -96,6 +98,7 @@ pub fn walk(journal: &[u32]) -> Survey
             &journal[at..],
             &lengths,
             place_of(latest),
+            reached,
             candidates_of(latest),
             rows,
         );
@@ -104,7 +107,9 @@ pub fn walk(journal: &[u32]) -> Survey
                 length,
                 candidates,
                 scores,
+                minute,
             } => {
+                reached = minute;
                 latest = later(latest, at, rows, candidates, scores);
                 at += length;
                 rows += 1;
@@ -118,6 +123,7 @@ pub fn walk(journal: &[u32]) -> Survey
         rows,
         used: at,
         latest,
+        minute: reached,
     }
 }
 

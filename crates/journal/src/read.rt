@@ -18,18 +18,37 @@ ghost use lib.Ieee.Scale.{finite};
 ghost use Rattle.lists.specs.Loops.{anyBelow, everyBelow};
 ghost use Rattle.journal.specs.Row.{beforeOf};
 ghost use Rattle.journal.specs.Ranges.{candidateLimit, distanceOk, cellOk};
-ghost use Rattle.journal.specs.Record.{firstCell, cellWords, floatWords, floatAt, readCell, readDistance, recordLength};
-ghost use Rattle.journal.specs.inner.Check.{wellRead, bodyReads, recordAt};
+ghost use Rattle.journal.specs.Record.{firstCell, cellWords, floatWords, floatAt, readCell, readDistance, readRow, recordLength};
+ghost use Rattle.journal.specs.inner.Check.{wellRead, minuteReads, bodyReads, recordAt};
 ghost use Rattle.journal.specs.inner.LengthTable.{LengthTable};
 
-// What stands at the head of some words: no record, or a record's length, its number of candidates and whether its row scores.
+// What stands at the head of some words: no record, or a record's length, its number of candidates, whether its row scores, and its minute.
 pub enum Record {
     Bad,
     Whole {
         length: usize,
         candidates: usize,
         scores: bool,
+        minute: u32,
     },
+}
+
+// The minute of the record that starts with the first of the words.
+pub fn minute_of(words: &[u32]) -> u32
+    requires { ⌜ firstCell ≤ length (now words) ⌝ }
+    ensures { λ r. ⌜ r ≡ readRow (now (words .entry)) .minute ⌝ }
+{
+    words[2] % 268435456
+}
+
+// Whether a word is of kind 8, not before the minute `since`.
+fn minute_reads(word: u32, since: u32) -> bool
+    ensures { λ r. ⌜ r ≡ minuteReads since word ⌝ }
+{
+    if word / 268435456 != 8 {
+        return false;
+    }
+    since <= word % 268435456
 }
 
 // The candidate whose words start at `at`.
@@ -138,13 +157,25 @@ pub fn before_of(q: usize, c: usize) -> usize
     if c == 0 { 0 } else { q }
 }
 
-// Whether what follows the head word of c candidates with p predecessor candidates is a record's, which ends at `end`, with the predecessor's at `place`.
-fn body_reads(words: &[u32], place: usize, c: usize, p: usize, end: usize, row: usize) -> bool
+// Whether what follows the head word of c candidates with p predecessor candidates is a record's, which ends at `end`, with the predecessor's at
+// `place`, not before the minute `since`.
+fn body_reads(
+    words: &[u32],
+    place: usize,
+    since: u32,
+    c: usize,
+    p: usize,
+    end: usize,
+    row: usize,
+) -> bool
     requires { ⌜ (c < 32) × (p < 32) × (row < 65536) × (place < 268435456) ⌝ }
     requires { ⌜ (end ≡ recordLength c p) × (end ≤ length (now words)) ⌝ }
-    ensures { λ r. ⌜ r ≡ bodyReads place c p row (now (words .entry)) ⌝ }
+    ensures { λ r. ⌜ r ≡ bodyReads place since c p row (now (words .entry)) ⌝ }
 {
     if words[1] != 0x7000_0000 + place as u32 {
+        return false;
+    }
+    if !minute_reads(words[2], since) {
         return false;
     }
     if !cells_read(words, c, p as u32, row) {
@@ -162,12 +193,19 @@ fn body_reads(words: &[u32], place: usize, c: usize, p: usize, end: usize, row: 
     words[last] == 0x4000_0000 + end as u32
 }
 
-// The record at the head of the words, as this row on a predecessor of q candidates, whose record starts at `place`. Its length is that of
-// the lent table.
-pub fn read_row(words: &[u32], lengths: &[u16; 289], place: usize, q: usize, row: usize) -> Record
+// The record at the head of the words, as this row, after one of the minute `since`, on a predecessor of q candidates, whose record starts at
+// `place`. Its length is that of the lent table.
+pub fn read_row(
+    words: &[u32],
+    lengths: &[u16; 289],
+    place: usize,
+    since: u32,
+    q: usize,
+    row: usize,
+) -> Record
     requires { ⌜ LengthTable (now lengths) ⌝ }
     requires { ⌜ (q ≤ candidateLimit) × (row < 65536) × (place < 268435456) ⌝ }
-    ensures { λ r. ⌜ r ≡ recordAt place q row (now (words .entry)) ⌝ }
+    ensures { λ r. ⌜ r ≡ recordAt place since q row (now (words .entry)) ⌝ }
 {
     if words.len() == 0 {
         return Record::Bad;
@@ -188,7 +226,7 @@ pub fn read_row(words: &[u32], lengths: &[u16; 289], place: usize, q: usize, row
     if words.len() < length {
         return Record::Bad;
     }
-    if !body_reads(words, place, c, p, length, row) {
+    if !body_reads(words, place, since, c, p, length, row) {
         return Record::Bad;
     }
     let scores = scores_read(words, c);
@@ -196,5 +234,6 @@ pub fn read_row(words: &[u32], lengths: &[u16; 289], place: usize, q: usize, row
         length,
         candidates: c,
         scores,
+        minute: minute_of(words),
     }
 }

@@ -24,7 +24,7 @@ pub struct Candidate {
 }
 
 // Where the first candidate's words start in a record, past its head.
-pub const FIRST_CELL: usize = 2;
+pub const FIRST_CELL: usize = 3;
 
 // How many distances c candidates have with p predecessor candidates.
 pub fn distance_count(c: usize, p: usize) -> usize
@@ -98,6 +98,7 @@ fn put_row(
     let length = record_length(n, p);
     words[0] = 0x1000_0000 + n as u32 + 32 * p as u32;
     words[1] = 0x7000_0000 + place as u32;
+    words[2] = 0x8000_0000 + fix.minute;
     put_cells(words, fix, parents, scores);
     put_distances(words, FIRST_CELL + 7 * n, distances);
     words[length - 1] = 0x4000_0000 + length as u32;

@@ -8,9 +8,9 @@ use crate::link::node_of;
 use crate::link::relation_at;
 ghost use mathlib.Core.Path.{_≡_};
 ghost use Prim.Native.Nat.{_≤_};
-ghost use Rattle.network.specs.Network.{Relations, relationsOf};
-ghost use Rattle.network.specs.Graph.{linksOf};
-ghost use Rattle.network.specs.inner.Sound.{RelationsFit, FieldsOf32Bits};
+ghost use Rattle.network.specs.Network.{Relations, Windows, relationsOf, windowsOf};
+ghost use Rattle.network.specs.Graph.{relationsAt, linksOf};
+ghost use Rattle.network.specs.inner.Sound.{RelationsFit, WindowsFit, FieldsOf32Bits};
 ghost use Rattle.network.specs.inner.Nodes.{within, sideNodes, elementNodes, linkLeads, relationLeads, joined};
 
 // The nodes from one to another.
@@ -65,7 +65,7 @@ fn relation_leads(elements: usize, sources: Nodes, targets: Nodes, r: Relation) 
     link_leads(sources, targets, link_behind(elements, r))
 }
 
-// Whether a relation's link leads from one of the sources to one of the targets.
+// Whether a relation's link leads at a minute from one of the sources to one of the targets.
 pub fn are_joined(
     elements: usize,
     from: &[u32],
@@ -74,16 +74,34 @@ pub fn are_joined(
     to_side: &[u32],
     forward: &[u32],
     backward: &[u32],
+    window_counts: &[u32],
+    window_firsts: &[u32],
+    window_lasts: &[u32],
+    minute: u32,
     sources: Nodes,
     targets: Nodes,
 ) -> bool
-    ghost { Relations }
-    requires { λ rs. ⌜ relationsOf (now from) (now to) (now «from_side») (now «to_side») (now forward) (now backward) ≡ rs ⌝ }
-    requires { λ rs. ⌜ RelationsFit rs ⌝ }
-    ensures { λ rs r. ⌜ r ≡ joined (linksOf elements rs) sources targets ⌝ }
+    ghost { Relations × Windows }
+    requires { λ α.
+        let rs = relationsOf (now from) (now to) (now «from_side») (now «to_side») (now forward) (now backward) in
+        ⌜ (rs, windowsOf (now «window_counts») (now «window_firsts») (now «window_lasts»)) ≡ α ⌝ }
+    requires { λ (rs, w). ⌜ RelationsFit rs × WindowsFit w ⌝ }
+    ensures { λ (rs, w) r. ⌜ r ≡ joined (linksOf elements (relationsAt w minute rs)) sources targets ⌝ }
 {
     for k in 0..from.len() {
-        let r = relation_at(from, to, from_side, to_side, forward, backward, k);
+        let r = relation_at(
+            from,
+            to,
+            from_side,
+            to_side,
+            forward,
+            backward,
+            window_counts,
+            window_firsts,
+            window_lasts,
+            minute,
+            k,
+        );
         if relation_leads(elements, sources, targets, r) {
             return true;
         }

@@ -25,6 +25,7 @@ fn nothing_left(refusal: u32) -> Building
 {
     let group = NetelementGroup {
         element: 0,
+        minute: 0,
         min_intrinsic: 0.0,
         max_intrinsic: 0.0,
         first_row: 0,
@@ -66,6 +67,9 @@ fn begin_at(
     to_side: &[u32],
     forward: &[u32],
     backward: &[u32],
+    window_counts: &[u32],
+    window_firsts: &[u32],
+    window_lasts: &[u32],
     journal: &[u32],
     standing: usize,
     used: usize,
@@ -74,7 +78,7 @@ fn begin_at(
     room: usize,
 ) -> Building
     ghost { Network }
-    requires { λ net. ⌜ networkOf (now lengths) (now headings) (now flags) (now from) (now to) (now «from_side») (now «to_side») (now forward) (now backward) ≡ net ⌝ }
+    requires { λ net. ⌜ networkOf (now lengths) (now headings) (now flags) (now from) (now to) (now «from_side») (now «to_side») (now forward) (now backward) (now «window_counts») (now «window_firsts») (now «window_lasts») ≡ net ⌝ }
     requires { λ net. ⌜ checked net ≡ Checked.Accepted ⌝ }
     requires { λ _. ⌜ Scoring (now journal) standing used place candidates ⌝ }
     ensures { λ net r. ⌜ OpenedAt net (now (journal .entry)) room r ⌝ }
@@ -98,6 +102,9 @@ fn begin_at(
         to_side,
         forward,
         backward,
+        window_counts,
+        window_firsts,
+        window_lasts,
         journal,
         trail,
     );
@@ -126,18 +133,26 @@ fn begin_read(
     to_side: &[u32],
     forward: &[u32],
     backward: &[u32],
+    window_counts: &[u32],
+    window_firsts: &[u32],
+    window_lasts: &[u32],
     journal: &[u32],
     room: usize,
 ) -> Building
     ghost { Network }
-    requires { λ net. ⌜ networkOf (now lengths) (now headings) (now flags) (now from) (now to) (now «from_side») (now «to_side») (now forward) (now backward) ≡ net ⌝ }
+    requires { λ net. ⌜ networkOf (now lengths) (now headings) (now flags) (now from) (now to) (now «from_side») (now «to_side») (now forward) (now backward) (now «window_counts») (now «window_firsts») (now «window_lasts») ≡ net ⌝ }
     requires { λ net. ⌜ checked net ≡ Checked.Accepted ⌝ }
     ensures { λ net r. ⌜ Opened net (now (journal .entry)) room r ⌝ }
 {
     let found = read_journal(journal);
     match found {
         Survey::NotWellFormed => nothing_left(7),
-        Survey::WellFormed { rows, used, latest } => {
+        Survey::WellFormed {
+            rows,
+            used,
+            latest,
+            minute: _,
+        } => {
             if !rows_known(journal, rows, used, lengths.len() as u32) {
                 return nothing_left(9);
             }
@@ -157,6 +172,9 @@ fn begin_read(
                     to_side,
                     forward,
                     backward,
+                    window_counts,
+                    window_firsts,
+                    window_lasts,
                     journal,
                     rows,
                     used,
@@ -180,12 +198,16 @@ pub fn begin(
     to_side: &[u32],
     forward: &[u32],
     backward: &[u32],
+    window_counts: &[u32],
+    window_firsts: &[u32],
+    window_lasts: &[u32],
     journal: &[u32],
     room: usize,
 ) -> Building
     ensures { λ r.
         let net = networkOf (now (lengths .entry)) (now (headings .entry)) (now (flags .entry))
-        (now (from .entry)) (now (to .entry)) (now («from_side» .entry)) (now («to_side» .entry)) (now (forward .entry)) (now (backward .entry)) in
+        (now (from .entry)) (now (to .entry)) (now («from_side» .entry)) (now («to_side» .entry)) (now (forward .entry)) (now (backward .entry))
+        (now («window_counts» .entry)) (now («window_firsts» .entry)) (now («window_lasts» .entry)) in
         ⌜ Opened net (now (journal .entry)) room r ⌝ }
 {
     let answer = check_network(
@@ -198,6 +220,9 @@ pub fn begin(
         to_side,
         forward,
         backward,
+        window_counts,
+        window_firsts,
+        window_lasts,
     );
     match answer {
         Checked::Accepted => begin_read(
@@ -210,6 +235,9 @@ pub fn begin(
             to_side,
             forward,
             backward,
+            window_counts,
+            window_firsts,
+            window_lasts,
             journal,
             room,
         ),

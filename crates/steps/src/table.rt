@@ -3,6 +3,7 @@ use crate::fill::fill_steps;
 use crate::find::Found;
 use crate::find::check_row;
 use crate::record::candidate_count;
+use journal::read::minute_of;
 use journal::record::distance_count;
 use network::check::Checked;
 use network::compile::compile_network;
@@ -11,8 +12,7 @@ use network::compile::no_links;
 use transition::step::Settings;
 ghost use mathlib.Core.Path.{_≡_};
 ghost use Prim.Native.Nat.{ℕ};
-ghost use Rattle.network.specs.Network.{Network, networkOf, checked};
-ghost use Rattle.network.specs.Graph.{elementCount, graph};
+ghost use Rattle.network.specs.Network.{Network, networkOf, knownCount, checked};
 ghost use Rattle.transition.specs.Step.{transition};
 ghost use Rattle.journal.specs.Row.{Row};
 ghost use Rattle.journal.specs.Record.{readRow};
@@ -48,7 +48,8 @@ fn no_steps(checked: Checked) -> RowSteps
     }
 }
 
-// The steps between two rows, whose records stand at the head of some words. The network, which is accepted, is compiled for them.
+// The steps between two rows, whose records stand at the head of some words. The network, which is accepted, is compiled for the own
+// row's minute.
 fn steps_between(
     lengths: &[f64],
     headings: &[f64],
@@ -59,6 +60,9 @@ fn steps_between(
     to_side: &[u32],
     forward: &[u32],
     backward: &[u32],
+    window_counts: &[u32],
+    window_firsts: &[u32],
+    window_lasts: &[u32],
     settings: Settings,
     own: &[u32],
     previous: &[u32],
@@ -67,11 +71,11 @@ fn steps_between(
 ) -> RowSteps
     ghost { Network × Row × Row }
     requires { λ α.
-        let net = networkOf (now lengths) (now headings) (now flags) (now from) (now to) (now «from_side») (now «to_side») (now forward) (now backward) in
+        let net = networkOf (now lengths) (now headings) (now flags) (now from) (now to) (now «from_side») (now «to_side») (now forward) (now backward) (now «window_counts») (now «window_firsts») (now «window_lasts») in
         ⌜ (net, readRow (now previous), readRow (now own)) ≡ α ⌝ }
     requires { λ (net, p, r). ⌜ checked net ≡ Checked.Accepted ⌝ }
-    requires { λ (net, p, r). ⌜ TwoRecords (elementCount (graph net)) (now own) (now previous) ⌝ }
-    ensures { λ (net, p, r) x. ⌜ Sized x × ((room : ℕ) → rowListed x room ≡ stepsFitted (stepsBetween (transition net settings) «predecessor_row» p row r) room) ⌝ }
+    requires { λ (net, p, r). ⌜ TwoRecords (knownCount net) (now own) (now previous) ⌝ }
+    ensures { λ (net, p, r) x. ⌜ Sized x × ((room : ℕ) → rowListed x room ≡ stepsFitted (stepsBetween (transition net settings (r .minute)) «predecessor_row» p row r) room) ⌝ }
 {
     let mut heads = no_heads();
     let mut links = no_links();
@@ -83,6 +87,10 @@ fn steps_between(
         to_side,
         forward,
         backward,
+        window_counts,
+        window_firsts,
+        window_lasts,
+        minute_of(own),
         &mut heads,
         &mut links,
     );
@@ -115,7 +123,7 @@ fn steps_between(
     }
 }
 
-// The steps into a row: checks 1 to 7, 9 and 13.
+// The steps into a row: checks 1 to 5, 16, 6, 7, 9 and 13.
 pub fn find_steps(
     lengths: &[f64],
     headings: &[f64],
@@ -126,13 +134,17 @@ pub fn find_steps(
     to_side: &[u32],
     forward: &[u32],
     backward: &[u32],
+    window_counts: &[u32],
+    window_firsts: &[u32],
+    window_lasts: &[u32],
     settings: Settings,
     journal: &[u32],
     row: u32,
 ) -> RowSteps
     ensures { λ x.
         let net = networkOf (now (lengths .entry)) (now (headings .entry)) (now (flags .entry))
-        (now (from .entry)) (now (to .entry)) (now («from_side» .entry)) (now («to_side» .entry)) (now (forward .entry)) (now (backward .entry)) in
+        (now (from .entry)) (now (to .entry)) (now («from_side» .entry)) (now («to_side» .entry)) (now (forward .entry)) (now (backward .entry))
+        (now («window_counts» .entry)) (now («window_firsts» .entry)) (now («window_lasts» .entry)) in
         ⌜ Sized x × ((room : ℕ) → rowListed x room ≡ listing net settings (now (journal .entry)) row room) ⌝ }
 {
     let found = check_row(
@@ -145,6 +157,9 @@ pub fn find_steps(
         to_side,
         forward,
         backward,
+        window_counts,
+        window_firsts,
+        window_lasts,
         settings,
         journal,
         row,
@@ -166,6 +181,9 @@ pub fn find_steps(
             to_side,
             forward,
             backward,
+            window_counts,
+            window_firsts,
+            window_lasts,
             settings,
             &journal[place..],
             &journal[before..],

@@ -38,6 +38,6 @@ written : (decimal 0 ≡ bytes "0") × (decimal 1100 ≡ bytes "1100") × (hexWo
 unfolding decimal zeros lastDigits glyph
 written = (refl, refl, refl)
 
-keyword-of : (keywordOf (bytes "routes") ≡ Keyword.Routes) × (keywordOf (bytes "rout") ≡ Keyword.Unknown)
+keyword-of : (keywordOf (bytes "routes") ≡ Keyword.Routes) × (keywordOf (bytes "rout") ≡ Keyword.Unknown) × (keywordOf (bytes "windows") ≡ Keyword.Windows)
 unfolding keywordOf entryFor same
-keyword-of = (refl, refl)
+keyword-of = (refl, refl, refl)

@@ -6,7 +6,7 @@ use mathlib.Core.List.{List}
 use lib.ListN.{length, set}
 use lib.Seq.{set-out}
 use lib.Ieee.{Float}
-use Rattle.text.specs.inner.Lists.{entryStored, numberInto, floatInto, elementsReadOf, element, relationsReadOf, relation, candidatesReadOf, candidate, segmentsReadOf, segment}
+use Rattle.text.specs.inner.Lists.{entryStored, numberInto, floatInto, elementsReadOf, element, relationsReadOf, relation, windowsReadOf, window, candidatesReadOf, candidate, segmentsReadOf, segment}
 use Rattle.text.specs.declared.cursor.Cursor.{Cursor}
 
 module _ {A : Type 0} (i : ℕ) (c : Cursor) (v : A) (xs : List A) where
@@ -47,6 +47,13 @@ pub relation-stored : (text : List ℕ) (k : ℕ) (c : Cursor) (from : List ℕ)
     → relationsReadOf c6 from1 to1 fromSide1 toSide1 forward1 backward1 ≡ relation text k (relationsReadOf c from to fromSide toSide forward backward)
 unfolding relation
 relation-stored text k c from to fromSide toSide forward backward c1 c2 c3 c4 c5 c6 from1 to1 fromSide1 toSide1 forward1 backward1 e1 e2 e3 e4 e5 e6 = rw (e6 .0, e6 .1, e5 .0, e5 .1, e4 .0, e4 .1, e3 .0, e3 .1, e2 .0, e2 .1, e1 .0, e1 .1)
+
+pub window-stored : (text : List ℕ) (k : ℕ) (c : Cursor) (firsts : List ℕ) (lasts : List ℕ) (c1 c2 : Cursor) (firsts1 : List ℕ) (lasts1 : List ℕ)
+    → (c1 ≡ numberInto text k c firsts .0) × (firsts1 ≡ numberInto text k c firsts .1)
+    → (c2 ≡ numberInto text k c1 lasts .0) × (lasts1 ≡ numberInto text k c1 lasts .1)
+    → windowsReadOf c2 firsts1 lasts1 ≡ window text k (windowsReadOf c firsts lasts)
+unfolding window
+window-stored text k c firsts lasts c1 c2 firsts1 lasts1 e1 e2 = rw (e2 .0, e2 .1, e1 .0, e1 .1)
 
 pub candidate-stored : (text : List ℕ) (k : ℕ) (c : Cursor) (elements : List ℕ) (intrinsics : List Float) (near : List ℕ) (rawLogs : List Float)
     (c1 c2 c3 c4 : Cursor) (elements1 : List ℕ) (intrinsics1 : List Float) (near1 : List ℕ) (rawLogs1 : List Float)

@@ -24,6 +24,8 @@ pub enum Keyword {
     Segments,
     Collapse,
     Kept,
+    Windows,
+    Minute,
     Unknown,
 }
 
@@ -37,6 +39,9 @@ pub enum Slice {
     ToSide,
     Forward,
     Backward,
+    WindowCounts,
+    WindowFirsts,
+    WindowLasts,
     Elements,
     Intrinsics,
     Near,
@@ -74,7 +79,7 @@ pub fn read_keyword(word: &[u8]) -> Keyword
     ensures { λ r. ⌜ r ≡ keywordOf (now (word .entry)) ⌝ }
 {
     match place_in(
-        b"network settings journal feed open strike poke short words close row steps route routes triple segments collapse kept",
+        b"network settings journal feed open strike poke short words close row steps route routes triple segments collapse kept windows minute",
         word,
     ) {
         0 => Keyword::Network,
@@ -95,6 +100,8 @@ pub fn read_keyword(word: &[u8]) -> Keyword
         15 => Keyword::Segments,
         16 => Keyword::Collapse,
         17 => Keyword::Kept,
+        18 => Keyword::Windows,
+        19 => Keyword::Minute,
         _ => Keyword::Unknown,
     }
 }
@@ -104,7 +111,7 @@ pub fn read_slice(word: &[u8]) -> Slice
     ensures { λ r. ⌜ r ≡ sliceOf (now (word .entry)) ⌝ }
 {
     match place_in(
-        b"lengths headings flags from to from_side to_side forward backward elements intrinsics near raw_logs distances answer decisions",
+        b"lengths headings flags from to from_side to_side forward backward window_counts window_firsts window_lasts elements intrinsics near raw_logs distances answer decisions",
         word,
     ) {
         0 => Slice::Lengths,
@@ -116,13 +123,16 @@ pub fn read_slice(word: &[u8]) -> Slice
         6 => Slice::ToSide,
         7 => Slice::Forward,
         8 => Slice::Backward,
-        9 => Slice::Elements,
-        10 => Slice::Intrinsics,
-        11 => Slice::Near,
-        12 => Slice::RawLogs,
-        13 => Slice::Distances,
-        14 => Slice::Answer,
-        15 => Slice::Decisions,
+        9 => Slice::WindowCounts,
+        10 => Slice::WindowFirsts,
+        11 => Slice::WindowLasts,
+        12 => Slice::Elements,
+        13 => Slice::Intrinsics,
+        14 => Slice::Near,
+        15 => Slice::RawLogs,
+        16 => Slice::Distances,
+        17 => Slice::Answer,
+        18 => Slice::Decisions,
         _ => Slice::Unknown,
     }
 }

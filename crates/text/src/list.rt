@@ -5,7 +5,7 @@ use crate::cursor::take_number;
 ghost use mathlib.Core.Path.{_≡_};
 ghost use Prim.Native.Nat.{_<_};
 ghost use lib.ListN.{take};
-ghost use Rattle.text.specs.inner.Lists.{numberInto, floatInto, elementsReadOf, element, readElements, relationsReadOf, relation, readRelations, candidatesReadOf, candidate, readCandidates, readDistances, segmentsReadOf, segment, readSegments};
+ghost use Rattle.text.specs.inner.Lists.{numberInto, floatInto, elementsReadOf, element, readElements, relationsReadOf, relation, readRelations, windowsReadOf, window, readWindows, candidatesReadOf, candidate, readCandidates, readDistances, segmentsReadOf, segment, readSegments};
 
 // The first n entries of a slice; all of them where there are fewer.
 pub fn first_numbers<'a>(numbers: &'a [u32], n: usize) -> &'a [u32]
@@ -162,6 +162,29 @@ pub fn read_relations(
             forward,
             backward,
         );
+    }
+    cursor
+}
+
+// The first and the last minute of window k.
+fn read_window(text: &[u8], c: Cursor, k: usize, firsts: &mut [u32], lasts: &mut [u32]) -> Cursor
+    ensures { λ r.
+        let s = windowsReadOf c (now (firsts .entry)) (now (lasts .entry)) in
+        ⌜ windowsReadOf r (now (firsts .exit)) (now (lasts .exit)) ≡ window (now (text .entry)) k s ⌝ }
+{
+    let c1 = number_into(text, c, k, firsts);
+    number_into(text, c1, k, lasts)
+}
+
+// n windows of a relation.
+pub fn read_windows(text: &[u8], c: Cursor, n: u32, firsts: &mut [u32], lasts: &mut [u32]) -> Cursor
+    ensures { λ r.
+        let s = windowsReadOf c (now (firsts .entry)) (now (lasts .entry)) in
+        ⌜ windowsReadOf r (now (firsts .exit)) (now (lasts .exit)) ≡ readWindows (now (text .entry)) n s ⌝ }
+{
+    let mut cursor = c;
+    for k in 0..n as usize {
+        cursor = read_window(text, cursor, k, firsts, lasts);
     }
     cursor
 }

@@ -67,4 +67,5 @@ column f w n buffer = reverseAux (map f w) (drop n buffer)
 -- check 7 found so many rows and used words, and the last scoring row, of so many candidates, at a place
 pub record Scoring (s : List ℕ) (rows used place count : ℕ) : Type 0 where
   pub row : ℕ
-  pub found : survey s ≡ WellFormed rows used (At place row count)
+  pub minute : ℕ
+  pub found : survey s ≡ WellFormed rows used (At place row count) minute

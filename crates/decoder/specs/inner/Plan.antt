@@ -12,20 +12,20 @@ use Rattle.transition.specs.inner.Track.{TrackFits}
 use Rattle.transition.specs.Step.{stepOn}
 use Rattle.transition.specs.declared.step.Settings.{Settings}
 use Rattle.journal.specs.Lists.{each}
-use Rattle.journal.specs.Row.{Fix, Row, Given, candidateCount, predecessor, sizeOf, beforeOf}
-use Rattle.journal.specs.Ranges.{candidateLimit, rowLimit, candidateOk}
+use Rattle.journal.specs.Row.{Fix, Row, Given, candidateCount, predecessor, sizeOf, latestMinute, beforeOf}
+use Rattle.journal.specs.Ranges.{candidateLimit, rowLimit, minuteLimit, candidateOk}
 use Rattle.journal.specs.Journal.{recordOn, journal, put, used, readJournal}
 use Rattle.journal.specs.inner.Check.{latestOf}
 use Rattle.journal.specs.Call.{firstFailed}
 use Rattle.journal.specs.declared.check.Predecessor.{Predecessor}
-use Rattle.rows.specs.Row.{StepScore, row}
+use Rattle.rows.specs.Row.{StepScore, StepsAt, row}
 use Rattle.decoder.specs.Call.{knownRow, feedChecks}
 use Rattle.decoder.specs.declared.plan.Plan.{Plan}
 use Rattle.decoder.specs.declared.plan.Plan.the-variants.{Refused, Fits}
 
 -- ---- what the checks find
 
-module _ (refusal : Option ℕ) (known : ℕ) (step : StepScore) (s : List ℕ) (g : Given) where
+module _ (refusal : Option ℕ) (known : ℕ) (step : StepsAt) (s : List ℕ) (g : Given) where
   abbrev pub planPassed : List Row → Option ℕ → Plan
   planPassed rs (some k) = Refused k
   planPassed rs none = Fits (used s) (latestOf rs)
@@ -38,13 +38,13 @@ module _ (refusal : Option ℕ) (known : ℕ) (step : StepScore) (s : List ℕ) 
   planChecked (some k) = Refused k
   planChecked none = planRead (readJournal s)
 
-  -- checks 1 to 12: the first that fails, or where the record goes and its predecessor
+  -- checks 1 to 12, 16 and 17: the first that fails, or where the record goes and its predecessor
   unfoldable pub plan : Plan
   plan = planChecked refusal
 
--- checks 7 to 12, which no step score changes
+-- checks 7 to 12 and 17, which no step score changes
 abbrev pub PlannedFix : ℕ → List ℕ → Given → Plan → Type 0
-PlannedFix known s g p = (step : StepScore) → p ≡ planRead none known step s g (readJournal s)
+PlannedFix known s g p = (step : StepsAt) → p ≡ planRead none known step s g (readJournal s)
 
 -- ---- standing rows
 
@@ -62,7 +62,7 @@ knownRead n (some rs) = each (knownRow n) rs
 
 -- ---- a fix that is written
 
--- what checks 1 to 12 leave: a track whose lists fit, and rows on which the fix passes, with this predecessor
+-- what the checks leave: a track at the minute of the fix, whose lists fit, and rows on which the fix passes, with this predecessor
 pub record Feedable (t : Track) (settings : Settings) (s : List ℕ) (f : Fix) (latest : Predecessor) : Type 0 where
   pub fits : TrackFits t
   pub rows : List Row
@@ -72,6 +72,8 @@ pub record Feedable (t : Track) (settings : Settings) (s : List ℕ) (f : Fix) (
   pub candidates : T (each (candidateOk (elementCount (t .graph))) (f .candidates))
   pub known : T (each (knownRow (elementCount (t .graph))) rows)
   pub distances : length (f .distances) ≡ candidateCount f * beforeOf (sizeOf (predecessor rows)) (candidateCount f)
+  pub minute : f .minute < minuteLimit
+  pub not-before : latestMinute rows ≤ f .minute
   pub further : length rows < rowLimit
   pub room : length (journal rows) + length (recordOn rows (row (stepOn t settings) (predecessor rows) f)) ≤ length s
 

@@ -7,13 +7,13 @@ use Rattle.journal.specs.Ranges.{elementLimit, candidateOk, distanceOk}
 use Rattle.journal.specs.declared.record.Candidate.{Candidate}
 use Rattle.transition.specs.inner.Range.{ScoreOk}
 use Rattle.transition.specs.declared.step.Step.the-variants.{Possible}
-use Rattle.rows.specs.Row.{StepScore}
+use Rattle.rows.specs.Row.{StepScore, StepsAt}
 
 -- what is asked of the step score in a network of n elements: in range a possible one is at most 0, and at least -745.0
 abbrev pub StepInRange : StepScore → ℕ → Type 0
 StepInRange step n =
     (a b : Candidate) (d v : Float) → T (candidateOk n a) → T (candidateOk n b) → T (distanceOk d) → step a b d ≡ Possible v → ScoreOk v
 
--- what holds of a network and settings that checks 1 to 6 pass
-abbrev pub ChecksHold : ℕ → StepScore → Type 0
-ChecksHold known step = (known ≤ elementLimit) × StepInRange step known
+-- what holds, at every minute, of a network and settings that are not refused
+abbrev pub ChecksHold : ℕ → StepsAt → Type 0
+ChecksHold known step = (known ≤ elementLimit) × ((minute : ℕ) → StepInRange (step minute) known)

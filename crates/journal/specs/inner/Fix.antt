@@ -1,4 +1,4 @@
--- The candidates of a fix as the code has them: a list of 16, of which the first count.
+-- A fix as the code has it, but for its distances: its minute, and its candidates in a list of 16, of which the first count.
 use Prim.Native.Nat.{_≤_}
 use mathlib.Core.Path.{_≡_}
 use mathlib.Core.List.{List}
@@ -12,7 +12,7 @@ abbrev pub candidatesIn : Candidates → List Candidate
 candidatesIn x = take (x .count) (x .list)
 
 abbrev pub fixIn : Candidates → List Float → Fix
-fixIn x distances = record { candidates = candidatesIn x; distances = distances }
+fixIn x distances = record { minute = x .minute; candidates = candidatesIn x; distances = distances }
 
 -- the list is whole
 pub record Entries16 (x : Candidates) : Type 0 where

@@ -6,9 +6,10 @@ use mathlib.Core.List.{List, map}
 use lib.Dec.{leb}
 use lib.ListN.{length, getD}
 use lib.Ieee.{Float, nan}
-use Rattle.journal.specs.Lists.{each, number}
+use Rattle.lists.specs.Lists.{number}
+use Rattle.journal.specs.Lists.{each}
 use Rattle.journal.specs.Row.{Fix, candidateCount, Cell, Row, rowSize, cellOf, scores}
-use Rattle.journal.specs.Ranges.{candidateLimit, distanceOk, candidateOk, elementLimit}
+use Rattle.journal.specs.Ranges.{candidateLimit, distanceOk, candidateOk, elementLimit, minuteLimit}
 use Rattle.journal.specs.declared.record.Candidate.{Candidate}
 
 -- 0 to 16 candidates, each field of them and each distance in its range
@@ -22,13 +23,14 @@ pub record CellWritable (c : Cell) : Type 0 where
   pub parent : c .parent < 32
 
 pub record RowWritable (r : Row) : Type 0 where
+  pub minute : r .minute < minuteLimit
   pub few : rowSize r ≤ candidateLimit
   pub before : r .before ≤ candidateLimit
   pub number : length (r .distances) ≡ rowSize r * r .before
   pub cell : (k : ℕ) → k < rowSize r → CellWritable (cellOf r k)
 
 abbrev pub fixOf : Row → Fix
-fixOf r = record { candidates = map (λ (c : Cell). c .candidate) (r .cells); distances = r .distances }
+fixOf r = record { minute = r .minute; candidates = map (λ (c : Cell). c .candidate) (r .cells); distances = r .distances }
 
 -- candidates with their parents and scores, a list of each
 unfoldable pub cellsOf : List Candidate → List ℕ → List Float → List Cell
@@ -36,4 +38,4 @@ cellsOf cs parents scores = number (λ i c. record { candidate = c; parent = get
 
 -- the row of a fix with these parents, scores and p predecessor candidates
 abbrev pub rowOf : Fix → List ℕ → List Float → ℕ → Row
-rowOf f parents scores p = record { cells = cellsOf (f .candidates) parents scores; before = p; distances = f .distances }
+rowOf f parents scores p = record { minute = f .minute; cells = cellsOf (f .candidates) parents scores; before = p; distances = f .distances }

@@ -5,7 +5,7 @@ use lib.Dec.{T}
 use lib.ListN.{length, getD}
 use lib.Ieee.{nan}
 use Rattle.network.specs.declared.link.Relation.{Relation}
-use Rattle.network.specs.Network.{Relations, lengthFits}
+use Rattle.network.specs.Network.{Relations, Windows, lengthFits, windowCount}
 use Rattle.network.specs.Graph.{Graph, elementCount}
 use Rattle.network.specs.Walks.{External}
 
@@ -19,6 +19,13 @@ pub record RelationsFit (rs : Relations) : Type 0 where
   pub backward : length (rs .backward) ≡ length (rs .from)
   pub fromSides : (k : ℕ) → getD (rs .fromSide) k 0 ≤ 1
   pub toSides : (k : ℕ) → getD (rs .toSide) k 0 ≤ 1
+
+-- windows of at most 4,096 relations, or none
+pub record WindowsFit (w : Windows) : Type 0 where
+  pub many : length (w .counts) ≤ 4096
+  pub firsts : length (w .firsts) ≡ 4 * length (w .counts)
+  pub lasts : length (w .lasts) ≡ 4 * length (w .counts)
+  pub few : (k : ℕ) → windowCount w k ≤ 4
 
 -- no more elements than the limit, lengths in their range, and external edges that lead to sides of the elements alone
 pub record SoundGraph (g : Graph) : Type 0 where

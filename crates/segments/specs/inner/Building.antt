@@ -31,7 +31,7 @@ refusing k = record {
   waiting = 0;
   trail = record {
     more = false;
-    group = record { element = 0; «min_intrinsic» = pzero; «max_intrinsic» = pzero; «first_row» = 0; «last_row» = 0 };
+    group = record { element = 0; minute = 0; «min_intrinsic» = pzero; «max_intrinsic» = pzero; «first_row» = 0; «last_row» = 0 };
     bridges = bridgesOf [];
     back = record { rows = 0; end = 0; latest = 0; candidate = 0; pairs = 0 };
   };
@@ -64,7 +64,7 @@ pub record OpenedBy (o : BuildOutcome) (net : Network) (s : List ℕ) (room : �
 abbrev pub Opened : Network → List ℕ → ℕ → Building → Type 0
 Opened net s room b = OpenedBy (building net s room) net s room b
 
--- past checks 1 to 9
+-- past checks 1 to 5, 16, 7 and 9
 abbrev pub OpenedAt : Network → List ℕ → ℕ → Building → Type 0
 OpenedAt net s room b = OpenedBy (segmentsFitted room (pathSegments net (rowsIn s))) net s room b
 

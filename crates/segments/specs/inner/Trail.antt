@@ -27,5 +27,5 @@ pub record Begun (s : List ℕ) (start : Back) (r : Trail) : Type 0 where
 pub record Stepped (net : Network) (s : List ℕ) (t r : Trail) : Type 0 where
   pub reached : Reached s (r .back)
   pub whole : groupsFrom s (t .back) ≡ groupsLeft s r
-  pub bridged : r .bridges ≡ bridgesOf (cond (r .more) (elementsBetween net (r .group .element) (t .group .element)) [])
+  pub bridged : r .bridges ≡ bridgesOf (cond (r .more) (elementsBetween net (t .group .minute) (r .group .element) (t .group .element)) [])
   pub fewer : r .more ≡ true → r .back .rows < t .back .rows

@@ -40,7 +40,7 @@ foundRead known n (some rs) = foundPassed rs n (firstFailed ((9, each (knownRow 
 unfoldable pub rowsFound : ℕ → List ℕ → ℕ → Found
 rowsFound known s n = foundRead known n (readJournal s)
 
--- and checks 1 to 6 before them, with what they refuse
+-- and checks 1 to 5, 16 and 6 before them, with what they refuse
 abbrev pub foundChecked : Option ℕ → ℕ → List ℕ → ℕ → Found
 foundChecked none known s n = rowsFound known s n
 foundChecked (some k) known s n = Refused k

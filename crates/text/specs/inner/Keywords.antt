@@ -18,7 +18,8 @@ keywords =
     ∷ (bytes "poke", Keyword.Poke) ∷ (bytes "short", Keyword.Short) ∷ (bytes "words", Keyword.Words)
     ∷ (bytes "close", Keyword.Close) ∷ (bytes "row", Keyword.Row) ∷ (bytes "steps", Keyword.Steps)
     ∷ (bytes "route", Keyword.Route) ∷ (bytes "routes", Keyword.Routes) ∷ (bytes "triple", Keyword.Triple)
-    ∷ (bytes "segments", Keyword.Segments) ∷ (bytes "collapse", Keyword.Collapse) ∷ (bytes "kept", Keyword.Kept) ∷ []
+    ∷ (bytes "segments", Keyword.Segments) ∷ (bytes "collapse", Keyword.Collapse) ∷ (bytes "kept", Keyword.Kept)
+    ∷ (bytes "windows", Keyword.Windows) ∷ (bytes "minute", Keyword.Minute) ∷ []
 
 unfoldable pub keywordOf : List ℕ → Keyword
 keywordOf w = entryFor Keyword.Unknown keywords w
@@ -28,6 +29,7 @@ slices =
     (bytes "lengths", Slice.Lengths) ∷ (bytes "headings", Slice.Headings) ∷ (bytes "flags", Slice.Flags)
     ∷ (bytes "from", Slice.From) ∷ (bytes "to", Slice.To) ∷ (bytes "from_side", Slice.FromSide) ∷ (bytes "to_side", Slice.ToSide)
     ∷ (bytes "forward", Slice.Forward) ∷ (bytes "backward", Slice.Backward)
+    ∷ (bytes "window_counts", Slice.WindowCounts) ∷ (bytes "window_firsts", Slice.WindowFirsts) ∷ (bytes "window_lasts", Slice.WindowLasts)
     ∷ (bytes "elements", Slice.Elements) ∷ (bytes "intrinsics", Slice.Intrinsics) ∷ (bytes "near", Slice.Near)
     ∷ (bytes "raw_logs", Slice.RawLogs) ∷ (bytes "distances", Slice.Distances)
     ∷ (bytes "answer", Slice.Answer) ∷ (bytes "decisions", Slice.Decisions) ∷ []

@@ -71,6 +71,25 @@ relation text k s =
 unfoldable pub readRelations : List ℕ → ℕ → RelationsRead → RelationsRead
 readRelations text n s = upTo n (relation text) s
 
+-- ---- windows of a relation: first minute, last minute
+
+pub record WindowsRead : Type 0 where
+  pub cursor : Cursor
+  pub firsts : List ℕ
+  pub lasts : List ℕ
+
+abbrev pub windowsReadOf : Cursor → List ℕ → List ℕ → WindowsRead
+windowsReadOf c firsts lasts = record { cursor = c; firsts = firsts; lasts = lasts }
+
+unfoldable pub window : List ℕ → ℕ → WindowsRead → WindowsRead
+window text k s =
+    let first = numberInto text k (s .cursor) (s .firsts) in
+    let last = numberInto text k (first .0) (s .lasts) in
+    windowsReadOf (last .0) (first .1) (last .1)
+
+unfoldable pub readWindows : List ℕ → ℕ → WindowsRead → WindowsRead
+readWindows text n s = upTo n (window text) s
+
 -- ---- candidates: element, intrinsic, near, raw log
 
 pub record CandidatesRead : Type 0 where

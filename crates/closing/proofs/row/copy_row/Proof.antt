@@ -6,7 +6,7 @@ use lib.ListN.{getD}
 use borrow.Author.Needs.{needs}
 use Rattle.journal.specs.Record.{firstCell}
 use Rattle.closing.specs.Row.{RowBuffers, rowBuffersOf, candidateRoom, rowAnswer, filled}
-use Rattle.closing.proofs.Rows.{same-room, Rooms, rooms, some-words, fields-stand, floats-stand, distances-stand, row-longer, distances-longer, row-answer, row-filled}
+use Rattle.closing.proofs.Rows.{same-room, Rooms, rooms, some-words, head-whole, fields-stand, floats-stand, distances-stand, row-longer, distances-longer, row-answer, row-filled}
 use Rattle.closing.proofs.row.copy_row.Statement.{statement}
 use Rattle.closing.proofs.row.copy_row.Tie as tie
 
@@ -98,6 +98,9 @@ add-copy-floats-5 c = search needs
 copy-floats-requires-4 : tie.Need-copy-floats-requires-4
 copy-floats-requires-4 c κs = distances-stand (c .before .before .before .before .before .before .before .before .before .before .before .before .before .before .before .before .before .before .before .before .before .before .before .before .before .before .before .before .before .before .before .before .before .before .before .before .before .before .before .before .before .before .before .args .words .now) (c .before .before .before .before .before .before .before .before .before .before .before .before .before .before .before .before .before .before .before .before .before .before .before .before .before .before .before .before .before .before .before .before .before .before .before .before .before .before .before .before .before .before .before .pre) _ (c .before .before .before .before .before .before .before .before .before .before .before .before .before .before .before .before .before .before .before .before .before .before .before .before .before .before .before .before .before .before .before .before .distance-count .ensures .0) (c .before .before .before .before .before .before .before .before .before .before .before .before .before .before .before .before .before .before .before .before .before .before .before .before .before .if2 .left)
 
+minute-of-requires : tie.Need-minute-of-requires
+minute-of-requires c κs = head-whole (c .before .before .before .before .before .before .before .before .before .before .before .before .before .before .before .before .before .before .before .before .before .before .before .before .before .before .before .before .before .before .before .before .before .before .before .before .before .before .before .before .before .before .before .before .before .before .args .words .now) (c .before .before .before .before .before .before .before .before .before .before .before .before .before .before .before .before .before .before .before .before .before .before .before .before .before .before .before .before .before .before .before .before .before .before .before .before .before .before .before .before .before .before .before .before .before .before .pre)
+
 same-length : tie.Need-same-length
 same-length c = search needs
 
@@ -120,7 +123,7 @@ same-length-7 : tie.Need-same-length-7
 same-length-7 c = search needs
 
 returns-3 : tie.Need-returns-3
-returns-3 c = let start = (c .before .before .before .before .before .before .before .before .before .before .before .before .before .before .before .before .before .before .before .before .before .before .before .before .before .before .before .before .before .before .before .before .before .before .before .before .before .before .before .before .before .before .before .before .before .before) in let fits = room (c .before .before .before .before .before .before .before .before .before .before .before .before .before .before .before .before .before .before .before .before .before .before .before .before .before .before .before .before .before) in (row-answer (start .args .words .now) (lent start) (c .before .before .before .before .before .before .before .before .before .before .before .before .before .before .before .before .before .before .before .before .before .before .before .before .before .before .before .before .before .before .before .before .before .before .before .distance-count .ensures .0) fits (c .before .before .before .before .before .before .before .before .before .before .before .before .before .before .before .before .before .before .before .before .before .before .before .before .before .before .before .before .if2 .left), row-filled (start .args .words .now) (lent start) (c .before .before .before .before .before .before .before .before .before .before .before .before .before .before .before .before .before .before .before .before .before .before .before .before .before .before .before .before .before .before .before .before .before .before .before .distance-count .ensures .0) fits (c .before .before .before .before .before .before .before .before .before .before .before .before .before .before .before .before .before .before .before .before .before .before .before .before .before .before .before .before .if2 .left) (c .before .before .before .before .before .before .before .before .before .before .before .before .before .before .before .before .before .before .before .before .before .before .before .before .before .before .copy-fields .ensures) (c .before .before .before .before .before .before .before .before .before .before .before .before .before .before .before .before .before .before .before .before .before .before .copy-floats .ensures) (c .before .before .before .before .before .before .before .before .before .before .before .before .before .before .before .before .before .before .copy-fields2 .ensures) (c .before .before .before .before .before .before .before .before .before .before .before .before .before .before .copy-floats2 .ensures) (c .before .before .before .before .before .before .before .before .before .before .copy-fields3 .ensures) (c .before .before .before .before .before .before .copy-floats3 .ensures) (c .before .before .copy-floats4 .ensures))
+returns-3 c = let start = (c .before .before .before .before .before .before .before .before .before .before .before .before .before .before .before .before .before .before .before .before .before .before .before .before .before .before .before .before .before .before .before .before .before .before .before .before .before .before .before .before .before .before .before .before .before .before .before) in let fits = room (c .before .before .before .before .before .before .before .before .before .before .before .before .before .before .before .before .before .before .before .before .before .before .before .before .before .before .before .before .before .before) in (rw (c .minute-of .ensures) (row-answer (start .args .words .now) (lent start) (c .before .before .before .before .before .before .before .before .before .before .before .before .before .before .before .before .before .before .before .before .before .before .before .before .before .before .before .before .before .before .before .before .before .before .before .before .distance-count .ensures .0) fits (c .before .before .before .before .before .before .before .before .before .before .before .before .before .before .before .before .before .before .before .before .before .before .before .before .before .before .before .before .before .if2 .left)), row-filled (start .args .words .now) (lent start) (c .before .before .before .before .before .before .before .before .before .before .before .before .before .before .before .before .before .before .before .before .before .before .before .before .before .before .before .before .before .before .before .before .before .before .before .before .distance-count .ensures .0) fits (c .before .before .before .before .before .before .before .before .before .before .before .before .before .before .before .before .before .before .before .before .before .before .before .before .before .before .before .before .before .if2 .left) (c .before .before .before .before .before .before .before .before .before .before .before .before .before .before .before .before .before .before .before .before .before .before .before .before .before .before .before .copy-fields .ensures) (c .before .before .before .before .before .before .before .before .before .before .before .before .before .before .before .before .before .before .before .before .before .before .before .copy-floats .ensures) (c .before .before .before .before .before .before .before .before .before .before .before .before .before .before .before .before .before .before .before .copy-fields2 .ensures) (c .before .before .before .before .before .before .before .before .before .before .before .before .before .before .before .copy-floats2 .ensures) (c .before .before .before .before .before .before .before .before .before .before .before .copy-fields3 .ensures) (c .before .before .before .before .before .before .before .copy-floats3 .ensures) (c .before .before .before .copy-floats4 .ensures))
 
 pub copy-row-spec : {M : Type 1} → statement M
 copy-row-spec =
@@ -151,6 +154,7 @@ copy-row-spec =
     add-copy-floats-4
     add-copy-floats-5
     copy-floats-requires-4
+    minute-of-requires
     same-length
     same-length-2
     same-length-3

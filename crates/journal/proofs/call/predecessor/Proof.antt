@@ -22,16 +22,16 @@ enum-known-latest : tie.Need-enum-known-latest
 enum-known-latest c = search needs
 
 cast-t8 : tie.Need-cast-t8
-cast-t8 c = omega (arith, row-fits _ _ _ _ (sym (c .before .before .before .before .before .before .read-journal .ensures) ∙ c .before .before .before .before .found .given .1) _ _ _ (c .before .latest .given .1))
+cast-t8 c = omega (arith, row-fits _ _ _ _ _ (sym (c .before .before .before .before .before .before .read-journal .ensures) ∙ c .before .before .before .before .found .given .1) _ _ _ (c .before .latest .given .1))
 
 returns : tie.Need-returns
 returns c = preceding-not _ (sym (c .before .before .read-journal .ensures) ∙ c .enum-told .given .1)
 
 returns-2 : tie.Need-returns-2
-returns-2 c = preceding-told _ _ _ _ (sym (c .before .before .before .before .before .read-journal .ensures) ∙ c .before .before .before .found .given .1) _ (c .enum-told2 .given .1)
+returns-2 c = preceding-told _ _ _ _ _ (sym (c .before .before .before .before .before .read-journal .ensures) ∙ c .before .before .before .found .given .1) _ (c .enum-told2 .given .1)
 
 returns-3 : tie.Need-returns-3
-returns-3 c = preceding-told _ _ _ _ (sym (c .before .before .before .before .before .before .read-journal .ensures) ∙ c .before .before .before .before .found .given .1) _ (c .before .latest .given .1)
+returns-3 c = preceding-told _ _ _ _ _ (sym (c .before .before .before .before .before .before .read-journal .ensures) ∙ c .before .before .before .before .found .given .1) _ (c .before .latest .given .1)
 
 pub predecessor-spec : {M : Type 1} → statement M
 predecessor-spec =

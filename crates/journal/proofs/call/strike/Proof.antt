@@ -9,7 +9,7 @@ use Rattle.journal.proofs.call.strike.Tie as tie
 
 -- n rows stand
 stand : (c : tie.After-end-before) → RowsAtLeast (c .before .before .before .before .before .before .before .before .before .args .journal .now) (c .before .before .before .before .before .before .before .before .before .args .n)
-stand c = struck-stand _ _ _ _ _ (sym (c .before .before .before .before .before .before .read-journal .ensures) ∙ c .before .before .before .before .found .given .1) (c .before .before .if1 .left)
+stand c = struck-stand _ _ _ _ _ _ (sym (c .before .before .before .before .before .before .read-journal .ensures) ∙ c .before .before .before .before .found .given .1) (c .before .before .if1 .left)
 
 read-journal-requires : tie.Need-read-journal-requires
 read-journal-requires c κs = search needs
@@ -24,10 +24,10 @@ same-length : tie.Need-same-length
 same-length c = search needs
 
 returns : tie.Need-returns
-returns c = struck-more _ _ _ _ _ (sym (c .before .before .before .before .read-journal .ensures) ∙ c .before .before .found .given .1) (c .if1 .taken)
+returns c = struck-more _ _ _ _ _ _ (sym (c .before .before .before .before .read-journal .ensures) ∙ c .before .before .found .given .1) (c .if1 .taken)
 
 end-before-requires : tie.Need-end-before-requires
-end-before-requires c κs = struck-stand _ _ _ _ _ (sym (c .before .before .before .before .before .read-journal .ensures) ∙ c .before .before .before .found .given .1) (c .before .if1 .left)
+end-before-requires c κs = struck-stand _ _ _ _ _ _ (sym (c .before .before .before .before .before .read-journal .ensures) ∙ c .before .before .before .found .given .1) (c .before .if1 .left)
 
 cast-journal : tie.Need-cast-journal
 cast-journal c = omega (arith, c .end-before .ensures, end-small _ _ (stand c))
@@ -48,7 +48,7 @@ same-length-3 : tie.Need-same-length-3
 same-length-3 c = search needs
 
 returns-3 : tie.Need-returns-3
-returns-3 c = struck-done _ _ _ _ _ (sym (c .before .before .before .before .before .before .read-journal .ensures) ∙ c .before .before .before .before .found .given .1) (c .before .before .if1 .left) _ (c .end-before .ensures)
+returns-3 c = struck-done _ _ _ _ _ _ (sym (c .before .before .before .before .before .before .read-journal .ensures) ∙ c .before .before .before .before .found .given .1) (c .before .before .if1 .left) _ (c .end-before .ensures)
 
 pub strike-spec : {M : Type 1} → statement M
 strike-spec =

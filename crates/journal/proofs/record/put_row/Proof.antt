@@ -60,10 +60,18 @@ unfolding recordLength
 slice-write-words-2 c =
     let s = c .before .before .before in simp length-set (omega (arith, long s, s .pre .1 .0))
 
+add-words-4 : tie.Need-add-words-4
+add-words-4 c = omega (arith, c .before .before .before .before .pre .0 .1 .minute)
+
+slice-write-words-3 : tie.Need-slice-write-words-3
+unfolding recordLength
+slice-write-words-3 c =
+    let s = c .before .before .before .before in simp length-set (omega (arith, long s, s .pre .1 .0))
+
 put-cells-requires : tie.Need-put-cells-requires
 unfolding recordLength
 put-cells-requires c κs =
-    let s = c .before .before .before .before in
+    let s = c .before .before .before .before .before in
     (s .pre .0 .0, (s .pre .0 .1 .cell, simp length-set (omega (arith, long s, many s, s .pre .1 .0))))
 
 mul-put-distances : tie.Need-mul-put-distances
@@ -75,36 +83,36 @@ add-put-distances c = omega arith
 put-distances-requires : tie.Need-put-distances-requires
 unfolding recordLength
 put-distances-requires c κs =
-    let s = c .before .before .before .before .before .before .before .before in
+    let s = c .before .before .before .before .before .before .before .before .before in
     let product = mul-le-mul (s .pre .0 .0 .few) (s .pre .0 .1 .before) in
     (omega (arith, number s, long s, s .pre .1 .0, simp length-set at (c .before .before .before .put-cells .kept .0)), omega (arith, number s, product))
 
 cast-words-4 : tie.Need-cast-words-4
 cast-words-4 c = omega arith
 
-add-words-4 : tie.Need-add-words-4
-add-words-4 c = omega arith
+add-words-5 : tie.Need-add-words-5
+add-words-5 c = omega arith
 
 sub-words : tie.Need-sub-words
 unfolding recordLength
-sub-words c = omega (arith, c .before .before .before .before .before .before .before .before .record-length .ensures .0)
+sub-words c = omega (arith, c .before .before .before .before .before .before .before .before .before .record-length .ensures .0)
 
 mul-words-2 : tie.Need-mul-words-2
 mul-words-2 c = omega arith
 
-slice-write-words-3 : tie.Need-slice-write-words-3
+slice-write-words-4 : tie.Need-slice-write-words-4
 unfolding recordLength
-slice-write-words-3 c =
-    let s = c .before .before .before .before .before .before .before .before .before .before .before in
-    omega (arith, c .before .before .before .before .before .before .before .before .record-length .ensures .0, long s, simp length-set at (c .before .before .before .before .before .before .put-cells .kept .0), c .before .before .put-distances .kept .0, s .pre .1 .0)
+slice-write-words-4 c =
+    let s = c .before .before .before .before .before .before .before .before .before .before .before .before in
+    omega (arith, c .before .before .before .before .before .before .before .before .before .record-length .ensures .0, long s, simp length-set at (c .before .before .before .before .before .before .put-cells .kept .0), c .before .before .put-distances .kept .0, s .pre .1 .0)
 
 same-length : tie.Need-same-length
 same-length c = simp (length-set, c .before .before .put-distances .kept .0, c .before .before .before .before .before .before .put-cells .kept .0)
 
 returns : tie.Need-returns
 returns c =
-    let s = c .before .before .before .before .before .before .before .before .before .before .before in
-    let length-is = c .before .before .before .before .before .before .before .before .record-length .ensures .0 in
+    let s = c .before .before .before .before .before .before .before .before .before .before .before .before in
+    let length-is = c .before .before .before .before .before .before .before .before .before .record-length .ensures .0 in
     (length-is ∙ sym (long s), row-stored (s .args .words .now) _ _ (s .args .place) (row s) (s .pre .0 .1 .number) _ (many s) _ length-is (c .before .before .before .before .before .before .put-cells .ensures) (c .before .before .put-distances .ensures))
 
 pub put-row-spec : {M : Type 1} → statement M
@@ -121,14 +129,16 @@ put-row-spec =
     cast-words-3
     add-words-3
     slice-write-words-2
+    add-words-4
+    slice-write-words-3
     put-cells-requires
     mul-put-distances
     add-put-distances
     put-distances-requires
     cast-words-4
-    add-words-4
+    add-words-5
     sub-words
     mul-words-2
-    slice-write-words-3
+    slice-write-words-4
     same-length
     returns)

@@ -64,7 +64,7 @@ cast-steps-between c =
 steps-between-requires : tie.Need-steps-between-requires
 steps-between-requires c κs =
     let linked = sym (c .before .before .before .before .before .check-row .ensures) ∙ c .before .before .before .found2 .given .1 in
-    (row-accepted _ _ _ _ _ _ _ linked, parts-stand _ (c .before .before .before .before .before .before .before .before .before .before .before .before .before .before .before .before .args .journal .now) _ _ (row-joined _ _ _ _ _ _ _ linked .records))
+    (row-accepted _ _ _ _ _ _ _ linked, parts-stand _ (c .before .before .before .before .before .before .before .before .before .before .before .before .before .before .before .before .before .before .before .args .journal .now) _ _ (row-joined _ _ _ _ _ _ _ linked .records))
 
 returns : tie.Need-returns
 returns c =
@@ -80,8 +80,8 @@ returns-2 c =
 
 returns-3 : tie.Need-returns-3
 returns-3 c =
-    let a = c .before .before .before .before .before .before .before .before .before .before .before .before .before .before .before .before .before .args in
-    let net = networkOf (a .lengths .now) (a .headings .now) (a .flags .now) (a .from .now) (a .to .now) (a .from-side .now) (a .to-side .now) (a .forward .now) (a .backward .now) in
+    let a = c .before .before .before .before .before .before .before .before .before .before .before .before .before .before .before .before .before .before .before .before .args in
+    let net = networkOf (a .lengths .now) (a .headings .now) (a .flags .now) (a .from .now) (a .to .now) (a .from-side .now) (a .to-side .now) (a .forward .now) (a .backward .now) (a .window-counts .now) (a .window-firsts .now) (a .window-lasts .now) in
     let linked = sym (c .before .before .before .before .before .before .check-row .ensures) ∙ c .before .before .before .before .found2 .given .1 in
     let x = c .steps-between .ensures in
     (x .0, λ room. parts-listed (transition net (a .settings)) _ (a .row) (a .journal .now) _ _ room (x .1 room) ∙ sym (row-linked _ _ _ _ _ _ _ linked room))

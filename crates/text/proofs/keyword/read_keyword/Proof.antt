@@ -65,7 +65,13 @@ returns-18 : tie.Need-returns-18
 returns-18 c = keyword-at _ _ 17 (c .before .place-in .ensures) (c .match .keys18)
 
 returns-19 : tie.Need-returns-19
-returns-19 c = keyword-other _ _ (c .before .place-in .ensures) (c .match .rest)
+returns-19 c = keyword-at _ _ 18 (c .before .place-in .ensures) (c .match .keys19)
+
+returns-20 : tie.Need-returns-20
+returns-20 c = keyword-at _ _ 19 (c .before .place-in .ensures) (c .match .keys20)
+
+returns-21 : tie.Need-returns-21
+returns-21 c = keyword-other _ _ (c .before .place-in .ensures) (c .match .rest)
 
 pub read-keyword-spec : {M : Type 1} → statement M
 read-keyword-spec =
@@ -91,4 +97,6 @@ read-keyword-spec =
     returns-16
     returns-17
     returns-18
-    returns-19)
+    returns-19
+    returns-20
+    returns-21)

@@ -59,7 +59,16 @@ returns-16 : tie.Need-returns-16
 returns-16 c = slice-at _ _ 15 (c .before .place-in .ensures) (c .match .keys16)
 
 returns-17 : tie.Need-returns-17
-returns-17 c = slice-other _ _ (c .before .place-in .ensures) (c .match .rest)
+returns-17 c = slice-at _ _ 16 (c .before .place-in .ensures) (c .match .keys17)
+
+returns-18 : tie.Need-returns-18
+returns-18 c = slice-at _ _ 17 (c .before .place-in .ensures) (c .match .keys18)
+
+returns-19 : tie.Need-returns-19
+returns-19 c = slice-at _ _ 18 (c .before .place-in .ensures) (c .match .keys19)
+
+returns-20 : tie.Need-returns-20
+returns-20 c = slice-other _ _ (c .before .place-in .ensures) (c .match .rest)
 
 pub read-slice-spec : {M : Type 1} → statement M
 read-slice-spec =
@@ -83,4 +92,7 @@ read-slice-spec =
     returns-14
     returns-15
     returns-16
-    returns-17)
+    returns-17
+    returns-18
+    returns-19
+    returns-20)
