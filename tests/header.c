@@ -11,6 +11,8 @@ HOLDS(start, offsetof(struct box_segment, start_intrinsic) == 8);
 HOLDS(end, offsetof(struct box_segment, end_intrinsic) == 16);
 HOLDS(first_row, offsetof(struct box_segment, first_row) == 24);
 HOLDS(last_row, offsetof(struct box_segment, last_row) == 28);
+HOLDS(record, BOX_RECORD_WORDS(0, 0) == 5 && BOX_RECORD_WORDS(1, 0) == 12 && BOX_RECORD_WORDS(2, 3) == 31);
+HOLDS(minute, BOX_MAX_MINUTE == 0xFFFFFFF);
 
 uint32_t check(struct box_network network);
 uint32_t read_row(const uint32_t *journal, size_t journal_words, struct box_row *row);

@@ -1,6 +1,7 @@
 /* How much stack each call uses: it runs on a stack of its own that was painted before, and what it left unpainted is counted,
-   with the arguments. A network of 1,024 elements and fixes of 16 candidates are handed to it. Exits with 1 where a call is refused or uses more than
-   BOX_STACK_BYTES. Link with -Wl,-z,now, so that no call pays for finding memset or memcpy. */
+   with the arguments. A network of 1,024 elements with four windows a relation, and fixes of 16 candidates are handed to it.
+   Exits with 1 where a call is refused or uses more than BOX_STACK_BYTES. Link with -Wl,-z,now, so that no call pays for
+   finding memset or memcpy. */
 #define _XOPEN_SOURCE 600
 #include "box.h"
 
@@ -8,11 +9,12 @@
 #include <string.h>
 #include <ucontext.h>
 
-enum { N = BOX_MAX_ELEMENTS, C = BOX_MAX_CANDIDATES, S = BOX_MAX_STEPS, WORDS = 4096, SEGMENTS = 2048, PAINT = 0xA5 };
+enum { N = BOX_MAX_ELEMENTS, C = BOX_MAX_CANDIDATES, S = BOX_MAX_STEPS, W = BOX_MAX_WINDOWS, WORDS = 4096, SEGMENTS = 2048, PAINT = 0xA5 };
 
 static double lengths[N], headings[4 * N];
-static uint32_t flags[N], from[N], to[N], from_side[N], to_side[N], ways[N];
-static const struct box_network network = {N, lengths, headings, flags, N - 1, from, to, from_side, to_side, ways, ways};
+static uint32_t flags[N], from[N], to[N], from_side[N], to_side[N], ways[N], window_counts[N], window_firsts[W * N], window_lasts[W * N];
+static const struct box_network network = {N, lengths, headings, flags, N - 1, from, to, from_side, to_side, ways, ways,
+    window_counts, window_firsts, window_lasts};
 
 static uint32_t journal[WORDS], elements[C], near_flags[C], numbers[5][4 * N], decisions[6 * SEGMENTS], status;
 static double intrinsics[C], raw_logs[C], distances[S], floats[4][S], value;
@@ -21,18 +23,18 @@ static size_t pairs, count, second;
 
 static void check(void) { status = box_check_network(BOX_NETWORK(network)); }
 
-static void distance(void) { status = box_shortest_path_distance(BOX_NETWORK(network), 0, 0, N - 1, 1, &value); }
+static void distance(void) { status = box_shortest_path_distance(BOX_NETWORK(network), 0, 0, 0, N - 1, 1, &value); }
 
 static void route(void) {
-    status = box_shortest_path_route(BOX_NETWORK(network), 0, 0, N - 1, 1, numbers[0], 4 * N, &value, &count);
+    status = box_shortest_path_route(BOX_NETWORK(network), 0, 0, 0, N - 1, 1, numbers[0], 4 * N, &value, &count);
 }
 
-static void triple(void) { status = box_triple_is_consistent(BOX_NETWORK(network), 0, 1, 2, numbers[0]); }
+static void triple(void) { status = box_triple_is_consistent(BOX_NETWORK(network), 0, 0, 1, 2, numbers[0]); }
 
 static void open_journal(void) { status = box_open(journal, WORDS); }
 
 static void feed(void) {
-    status = box_feed(BOX_NETWORK(network), 10, 30, journal, WORDS, elements, C, intrinsics, C, near_flags, C, raw_logs, C,
+    status = box_feed(BOX_NETWORK(network), 10, 30, journal, WORDS, 0, elements, C, intrinsics, C, near_flags, C, raw_logs, C,
         distances, pairs);
 }
 
@@ -44,7 +46,7 @@ static void close_journal(void) { status = box_close(journal, WORDS, numbers[0],
 
 static void read_row(void) {
     status = box_read_row(journal, WORDS, 1, numbers[0], C, floats[0], C, numbers[1], C, floats[1], C, numbers[2], C, floats[2], C,
-        floats[3], S, &count, &second);
+        floats[3], S, &count, &second, numbers[3]);
 }
 
 static void list_steps(void) {
@@ -87,11 +89,12 @@ static int show(const char *name, void (*call)(void)) {
     return answer != BOX_DONE || bytes > BOX_STACK_BYTES;
 }
 
-/* A line of elements, and a fix with one candidate near an end, so that few of the pairs need a search. */
+/* A line of elements that are open at minute 0, and a fix with one candidate near an end, so that few of the pairs need a search. */
 static void prepare(void) {
     for (uint32_t i = 0; i < N; i++) {
-        lengths[i] = 10, flags[i] = 1, from[i] = i, to[i] = i + 1, from_side[i] = 1, to_side[i] = 0, ways[i] = 1;
+        lengths[i] = 10, flags[i] = 1, from[i] = i, to[i] = i + 1, from_side[i] = 1, to_side[i] = 0, ways[i] = 1, window_counts[i] = W;
     }
+    for (uint32_t i = 0; i < W * N; i++) window_firsts[i] = 1 + i, window_lasts[i] = 2 + i;
     for (uint32_t i = 0; i < C; i++) elements[i] = 60 * i, near_flags[i] = i == 0, intrinsics[i] = 0.5, raw_logs[i] = -1.0 - i;
 }
 

@@ -1,18 +1,20 @@
 //! Box as a host holds it: a network's slices, a journal, and the calls on them.
 
 use crate::linked;
-use differential::language::{Fix, Network, Settings, Side};
+use differential::language::{Fix, Network, Relation, Settings, Side};
 
-/// The nine slices of a network.
+/// The twelve slices of a network; the three of windows are empty where no relation has one.
 pub struct Slices {
     lengths: Vec<f64>,
     headings: Vec<f64>,
     flags: Vec<u32>,
     relations: [Vec<u32>; 6],
+    windows: [Vec<u32>; 3],
 }
 
-/// The five slices of a fix.
+/// The minute and the five slices of a fix.
 pub struct FixSlices {
+    minute: u32,
     elements: Vec<u32>,
     intrinsics: Vec<f64>,
     near: Vec<u32>,
@@ -22,7 +24,9 @@ pub struct FixSlices {
 
 impl Slices {
     pub fn of(network: &Network) -> Slices {
-        let field = |get: fn(&differential::language::Relation) -> u32| network.relations.iter().map(get).collect();
+        let field = |get: fn(&Relation) -> u32| network.relations.iter().map(get).collect();
+        let windowed = if network.relations.iter().any(|r| r.windows.count > 0) { &network.relations[..] } else { &[] };
+        let minutes = |get: fn(&(u32, u32)) -> u32| windowed.iter().flat_map(|r| r.windows.minutes.iter().map(get)).collect();
         Slices {
             lengths: network.elements.iter().map(|e| e.length).collect(),
             headings: network.elements.iter().flat_map(|e| e.headings).collect(),
@@ -35,6 +39,7 @@ impl Slices {
                 field(|r| r.forward),
                 field(|r| r.backward),
             ],
+            windows: [windowed.iter().map(|r| r.windows.count).collect(), minutes(|window| window.0), minutes(|window| window.1)],
         }
     }
 }
@@ -42,6 +47,7 @@ impl Slices {
 impl FixSlices {
     pub fn of(fix: &Fix) -> FixSlices {
         FixSlices {
+            minute: fix.minute,
             elements: fix.candidates.iter().map(|c| c.element).collect(),
             intrinsics: fix.candidates.iter().map(|c| c.intrinsic).collect(),
             near: fix.candidates.iter().map(|c| c.near).collect(),
@@ -56,17 +62,27 @@ fn accepted(status: u32, call: &str) {
     assert_eq!(status, 0, "{call} was refused");
 }
 
-/// The cost of a route that there is.
+/// A call with the network's slices first.
+macro_rules! on_network {
+    ($call:ident, $slices:expr, $($argument:expr),*) => {{
+        let Slices { lengths, headings, flags, relations, windows } = $slices;
+        let [from, to, from_side, to_side, forward, backward] = relations;
+        let [counts, firsts, lasts] = windows;
+        unsafe {
+            linked::$call(
+                lengths.as_ptr(), lengths.len(), headings.as_ptr(), headings.len(), flags.as_ptr(), flags.len(), from.as_ptr(), from.len(),
+                to.as_ptr(), to.len(), from_side.as_ptr(), from_side.len(), to_side.as_ptr(), to_side.len(), forward.as_ptr(), forward.len(),
+                backward.as_ptr(), backward.len(), counts.as_ptr(), counts.len(), firsts.as_ptr(), firsts.len(), lasts.as_ptr(), lasts.len(),
+                $($argument),*
+            )
+        }
+    }};
+}
+
+/// The cost of a route that there is, at minute 0.
 pub fn distance(s: &Slices, start: Side, goal: Side) -> f64 {
-    let [from, to, from_side, to_side, forward, backward] = &s.relations;
     let mut cost = 0.0;
-    let status = unsafe {
-        linked::box_shortest_path_distance(
-            s.lengths.as_ptr(), s.lengths.len(), s.headings.as_ptr(), s.headings.len(), s.flags.as_ptr(), s.flags.len(),
-            from.as_ptr(), from.len(), to.as_ptr(), to.len(), from_side.as_ptr(), from_side.len(), to_side.as_ptr(), to_side.len(),
-            forward.as_ptr(), forward.len(), backward.as_ptr(), backward.len(), start.element, start.side, goal.element, goal.side, &mut cost,
-        )
-    };
+    let status = on_network!(box_shortest_path_distance, s, 0, start.element, start.side, goal.element, goal.side, &mut cost);
     accepted(status, "distance");
     cost
 }
@@ -83,20 +99,26 @@ pub fn check(journal: &mut [u32]) {
 /// That of the checkout before.
 #[cfg(feature = "before")]
 pub fn check_before(journal: &mut [u32]) {
-    accepted(unsafe { linked::before_box_strike(journal.as_mut_ptr(), journal.len(), 0) }, "strike");
+    accepted(status_before(journal), "strike before");
+}
+
+/// Whether the checkout before reads this journal.
+#[cfg(feature = "before")]
+pub fn is_read_before(journal: &mut [u32]) -> bool {
+    status_before(journal) == 0
+}
+
+#[cfg(feature = "before")]
+fn status_before(journal: &mut [u32]) -> u32 {
+    unsafe { linked::before_box_strike(journal.as_mut_ptr(), journal.len(), 0) }
 }
 
 pub fn feed(s: &Slices, settings: Settings, journal: &mut [u32], fix: &FixSlices) {
-    let [from, to, from_side, to_side, forward, backward] = &s.relations;
-    let status = unsafe {
-        linked::box_feed(
-            s.lengths.as_ptr(), s.lengths.len(), s.headings.as_ptr(), s.headings.len(), s.flags.as_ptr(), s.flags.len(),
-            from.as_ptr(), from.len(), to.as_ptr(), to.len(), from_side.as_ptr(), from_side.len(), to_side.as_ptr(), to_side.len(),
-            forward.as_ptr(), forward.len(), backward.as_ptr(), backward.len(), settings.beta, settings.scale,
-            journal.as_mut_ptr(), journal.len(), fix.elements.as_ptr(), fix.elements.len(), fix.intrinsics.as_ptr(), fix.intrinsics.len(),
-            fix.near.as_ptr(), fix.near.len(), fix.raw_logs.as_ptr(), fix.raw_logs.len(), fix.distances.as_ptr(), fix.distances.len(),
-        )
-    };
+    let status = on_network!(
+        box_feed, s, settings.beta, settings.scale, journal.as_mut_ptr(), journal.len(), fix.minute,
+        fix.elements.as_ptr(), fix.elements.len(), fix.intrinsics.as_ptr(), fix.intrinsics.len(), fix.near.as_ptr(), fix.near.len(),
+        fix.raw_logs.as_ptr(), fix.raw_logs.len(), fix.distances.as_ptr(), fix.distances.len()
+    );
     accepted(status, "feed");
 }
 
@@ -114,16 +136,8 @@ pub fn close(journal: &[u32], rows: &mut [u32], candidates: &mut [u32]) -> (f64,
 
 /// How many segments the path has.
 pub fn build(s: &Slices, journal: &[u32], segments: &mut [linked::Segment]) -> usize {
-    let [from, to, from_side, to_side, forward, backward] = &s.relations;
     let mut count = 0;
-    let status = unsafe {
-        linked::box_build_path(
-            s.lengths.as_ptr(), s.lengths.len(), s.headings.as_ptr(), s.headings.len(), s.flags.as_ptr(), s.flags.len(),
-            from.as_ptr(), from.len(), to.as_ptr(), to.len(), from_side.as_ptr(), from_side.len(), to_side.as_ptr(), to_side.len(),
-            forward.as_ptr(), forward.len(), backward.as_ptr(), backward.len(), journal.as_ptr(), journal.len(),
-            segments.as_mut_ptr(), segments.len(), &mut count,
-        )
-    };
+    let status = on_network!(box_build_path, s, journal.as_ptr(), journal.len(), segments.as_mut_ptr(), segments.len(), &mut count);
     accepted(status, "build");
     count
 }

@@ -74,24 +74,26 @@ fn two_fixes(case: &str, goal: &str, network: &Network, fixes: &[Fix], runs: usi
     print_row(case, goal, box_times, other);
 }
 
+/// One drive, in microseconds a fix, without the checks of the journal.
+fn drive_once(slices: &Slices, fixes: &[FixSlices], journal: &mut [u32]) -> f64 {
+    host::open(journal);
+    let mut spent = 0.0;
+    for fix in fixes {
+        let began = Instant::now();
+        host::check(journal);
+        let checked = began.elapsed().as_secs_f64();
+        host::feed(slices, SETTINGS, journal, fix);
+        spent += began.elapsed().as_secs_f64() - 2.0 * checked;
+    }
+    spent * 1e6 / fixes.len() as f64
+}
+
 /// A drive, in microseconds a fix: Box without its checks of the journal, the original with a cache that fills over the drive.
 fn drive(case: &str, goal: &str, network: &Network, fixes: &[Fix], runs: usize) {
     let (slices, given): (_, Vec<FixSlices>) = (Slices::of(network), fixes.iter().map(FixSlices::of).collect());
     let count = fixes.len() as f64;
     let mut journal = vec![0; 80 * fixes.len() + 1];
-    let mut times = Vec::new();
-    for _ in 0..runs {
-        host::open(&mut journal);
-        let mut spent = 0.0;
-        for fix in &given {
-            let began = Instant::now();
-            host::check(&mut journal);
-            let checked = began.elapsed().as_secs_f64();
-            host::feed(&slices, SETTINGS, &mut journal, fix);
-            spent += began.elapsed().as_secs_f64() - 2.0 * checked;
-        }
-        times.push(spent * 1e6 / count);
-    }
+    let times = (0..runs).map(|_| drive_once(&slices, &given, &mut journal)).collect();
     let handed: Vec<&Fix> = fixes.iter().collect();
     let (logs, config) = (raw_logs(&handed), config(SETTINGS));
     let candidates = position_candidates(&handed);
@@ -102,6 +104,21 @@ fn drive(case: &str, goal: &str, network: &Network, fixes: &[Fix], runs: usize) 
     });
     let other = Times { median: whole.median / count, least: whole.least / count, greatest: whole.greatest / count };
     print_row(case, goal, Times::of(times), other);
+}
+
+/// The same drive with four windows on each relation, beside Box's own without any, by turns. All relations are open at its minutes, so that the same
+/// routes are sought; the original knows no windows.
+fn drive_with_windows(case: &str, network: &Network, fixes: &[Fix], runs: usize) {
+    let slices = [Slices::of(&yard::with_windows(network)), Slices::of(network)];
+    let given: Vec<FixSlices> = fixes.iter().map(FixSlices::of).collect();
+    let mut journals = [(); 2].map(|_| vec![0; 80 * fixes.len() + 1]);
+    let mut times = [Vec::new(), Vec::new()];
+    for turn in 0..2 * runs {
+        times[turn % 2].push(drive_once(&slices[turn % 2], &given, &mut journals[turn % 2]));
+    }
+    assert!(journals[0] == journals[1], "windows changed the drive");
+    let [with, without] = times.map(Times::of);
+    print_row(case, "", with, without);
 }
 
 /// The cost of a route: Box checks and indexes the network at each call, the original has built its graph before.
@@ -184,13 +201,18 @@ fn checks(journal: &mut [u32]) {
     checks_by_turns(journal, plain);
 }
 
-/// Check 7 and that of the checkout before by turns, so that what the machine does meanwhile falls on both.
+/// Check 7 and that of the checkout before by turns, so that what the machine does meanwhile falls on both. A checkout from before rows had minutes gets
+/// a copy of the journal without them.
 #[cfg(feature = "before")]
 fn checks_by_turns(journal: &mut [u32], plain: Times) {
+    let mut former = if host::is_read_before(journal) { journal.to_vec() } else { yard::without_minutes(journal) };
     let mut micros = [Vec::new(), Vec::new()];
     for turn in 0..2 * 101 {
         let began = Instant::now();
-        [host::check, host::check_before][turn % 2](journal);
+        match turn % 2 {
+            0 => host::check(journal),
+            _ => host::check_before(&mut former),
+        }
         micros[turn % 2].push(began.elapsed().as_secs_f64() * 1e6);
     }
     let [now, before] = micros.map(Times::of);
@@ -216,6 +238,7 @@ fn main() {
     let network = yard::network(1024);
     let fixes = yard::drive(&network, 1000, 4);
     drive("drive of 1,000 fixes, 4 neighbouring, a fix", "1.000", &network, &fixes, 5);
+    drive_with_windows("drive of 1,000 fixes, 4 neighbouring, four windows a relation, a fix, beside that without windows", &network, &fixes, 5);
     let start = Side { element: 0, side: 0 };
     route("route, 1024 elements, near", &network, start, Side { element: 34, side: 1 });
     route("route, 1024 elements, far", &network, start, Side { element: 1023, side: 1 });

@@ -1,6 +1,6 @@
 /* A short drive through the C interface. A train comes from the west, runs through a tunnel, and its host strikes two
    bad fixes at the far portal and feeds better ones. Before the points a reflection throws two fixes on the other
-   track; collapsing takes them out again. */
+   track; collapsing takes them out again. Later the way to track 1 is shut, and the same fixes lead to track 2. */
 #include "box.h"
 
 #include <stdio.h>
@@ -31,8 +31,14 @@ static const uint32_t from_side[RELATIONS] = {1, 1, 1, 1, 1};
 static const uint32_t to_side[RELATIONS] = {0, 0, 0, 0, 0};
 static const uint32_t both_ways[RELATIONS] = {1, 1, 1, 1, 1};
 
+/* A possession: relation 0, of west line and track 1, is shut from minute 120 on and open again at 240. */
+static const uint32_t window_counts[RELATIONS] = {1, 0, 0, 0, 0};
+static const uint32_t window_firsts[RELATIONS * BOX_MAX_WINDOWS] = {120};
+static const uint32_t window_lasts[RELATIONS * BOX_MAX_WINDOWS] = {240};
+
 static const struct box_network network = {
     ELEMENTS, lengths, headings, flags, RELATIONS, from, to, from_side, to_side, both_ways, both_ways,
+    window_counts, window_firsts, window_lasts,
 };
 
 static const double beta = 20, scale = 60;
@@ -97,37 +103,42 @@ static void read_row(const struct host *host, uint32_t number, struct box_row *r
 
 /* A distance for each pair of a candidate of the predecessor and one of the fix: the metres driven since then, which is
    near enough to all of them on this straight line. */
-static void feed(struct host *host, const struct fix *fixes, size_t count) {
-    for (const struct fix *fix = fixes; fix < fixes + count; fix++) {
-        double distances[4];
-        uint32_t row = 0;
-        size_t candidates = 0; /* stays 0 where there is no predecessor */
-        uint32_t answer = box_predecessor(host->journal, WORDS, &row, &candidates);
-        if (answer != BOX_NONE) expect_done("predecessor", answer);
-        size_t pairs = fix->count * candidates;
-        for (size_t i = 0; i < pairs; i++) distances[i] = fix->metres - host->metres[row];
-        expect_done("feed", box_feed(BOX_NETWORK(network), beta, scale, host->journal, WORDS, fix->elements, fix->count,
-            fix->intrinsics, fix->count, fix->near_flags, fix->count, fix->raw_logs, fix->count, distances, pairs));
-        host->metres[host->rows++] = fix->metres;
-    }
+static uint32_t feed_one(struct host *host, uint32_t minute, const struct fix *fix) {
+    double distances[4];
+    uint32_t row = 0;
+    size_t candidates = 0; /* stays 0 where there is no predecessor */
+    uint32_t answer = box_predecessor(host->journal, WORDS, &row, &candidates);
+    if (answer != BOX_NONE) expect_done("predecessor", answer);
+    size_t pairs = fix->count * candidates;
+    for (size_t i = 0; i < pairs; i++) distances[i] = fix->metres - host->metres[row];
+    answer = box_feed(BOX_NETWORK(network), beta, scale, host->journal, WORDS, minute, fix->elements, fix->count,
+        fix->intrinsics, fix->count, fix->near_flags, fix->count, fix->raw_logs, fix->count, distances, pairs);
+    if (answer == BOX_DONE) host->metres[host->rows++] = fix->metres;
+    return answer;
+}
+
+/* A fix a minute, from this one on. */
+static void feed(struct host *host, uint32_t minute, const struct fix *fixes, size_t count) {
+    for (size_t i = 0; i < count; i++) expect_done("feed", feed_one(host, minute + (uint32_t)i, &fixes[i]));
 }
 
 /* ---- What a person reads. */
 
-static void show_route(void) {
+static void show_route(uint32_t minute) {
     uint32_t states[BOX_MAX_STATES], through, back;
     double cost, same;
     size_t count;
-    expect_done("distance", box_shortest_path_distance(BOX_NETWORK(network), 0, 0, 4, 1, &cost));
-    expect_done("route", box_shortest_path_route(BOX_NETWORK(network), 0, 0, 4, 1, states, BOX_MAX_STATES, &same, &count));
-    printf("  from end to end: %.0f m, over", cost);
+    expect_done("distance", box_shortest_path_distance(BOX_NETWORK(network), minute, 0, 0, 4, 1, &cost));
+    expect_done("route", box_shortest_path_route(BOX_NETWORK(network), minute, 0, 0, 4, 1, states, BOX_MAX_STATES, &same,
+        &count));
+    printf("  minute %u, from end to end: %.0f m, over", (unsigned)minute, cost);
     for (size_t i = 0; i < count; i++) {
         if (i == 0 || states[i] / 4 != states[i - 1] / 4) printf("%s %s", i == 0 ? "" : ",", names[states[i] / 4]);
     }
     printf("\n");
-    expect_done("triple", box_triple_is_consistent(BOX_NETWORK(network), 1, 3, 4, &through));
-    expect_done("triple", box_triple_is_consistent(BOX_NETWORK(network), 1, 3, 2, &back));
-    printf("  track 1, points, east line: %s; track 1, points, track 2: %s\n", through ? "yes" : "no", back ? "yes" : "no");
+    expect_done("triple", box_triple_is_consistent(BOX_NETWORK(network), minute, 0, 1, 3, &through));
+    expect_done("triple", box_triple_is_consistent(BOX_NETWORK(network), minute, 1, 3, 2, &back));
+    printf("  west line, track 1, points: %s; track 1, points, track 2: %s\n", through ? "yes" : "no", back ? "yes" : "no");
 }
 
 static void show_steps(const struct host *host, uint32_t number) {
@@ -154,8 +165,8 @@ static void show_path(const struct host *host) {
     printf("  best path, score %.3f, of %u rows:\n", score, (unsigned)host->rows);
     for (size_t i = 0; i < count; i++) {
         read_row(host, rows[i], &row);
-        printf("    row %2u  %4.0f m  %-9s at %.3f\n", (unsigned)rows[i], host->metres[rows[i]],
-            names[row.elements[candidates[i]]], row.intrinsics[candidates[i]]);
+        printf("    row %2u  minute %3u  %4.0f m  %-9s at %.3f\n", (unsigned)rows[i], (unsigned)row.minute,
+            host->metres[rows[i]], names[row.elements[candidates[i]]], row.intrinsics[candidates[i]]);
     }
 }
 
@@ -174,7 +185,26 @@ static void show_decisions(const uint32_t *decisions, size_t count) {
     }
 }
 
-/* ---- The drive. */
+/* ---- The drives. */
+
+static void drive_in_possession(struct host *host) {
+    struct box_row last;
+    printf("7. The way from west line to track 1 is shut from minute 120 on, until 240.\n");
+    show_route(119);
+    show_route(120);
+    show_route(240);
+
+    expect_done("open", box_open(host->journal, WORDS));
+    host->rows = 0;
+    feed(host, 130, approach, sizeof approach / sizeof approach[0]);
+    feed(host, 136, onward, 3);
+    printf("8. The same fixes from minute 130 on, in a journal opened again.\n");
+    show_path(host);
+
+    read_row(host, host->rows - 1, &last);
+    printf("9. A fix of minute %u is refused with %u: the last row is of minute %u.\n", (unsigned)last.minute - 1,
+        (unsigned)feed_one(host, last.minute - 1, &onward[3]), (unsigned)last.minute);
+}
 
 int main(void) {
     static struct host host;
@@ -184,11 +214,11 @@ int main(void) {
 
     expect_done("network", box_check_network(BOX_NETWORK(network)));
     printf("1. The network is accepted.\n");
-    show_route();
+    show_route(0);
 
     expect_done("open", box_open(host.journal, WORDS));
-    feed(&host, approach, sizeof approach / sizeof approach[0]);
-    feed(&host, at_the_portal, sizeof at_the_portal / sizeof at_the_portal[0]);
+    feed(&host, 0, approach, sizeof approach / sizeof approach[0]);
+    feed(&host, 6, at_the_portal, sizeof at_the_portal / sizeof at_the_portal[0]);
     printf("2. Fed up to the far portal; rows 4 and 5 are in the tunnel.\n");
     show_path(&host);
 
@@ -196,7 +226,7 @@ int main(void) {
         (unsigned)host.rows);
     expect_done("strike", box_strike(host.journal, WORDS, 2));
     host.rows -= 2;
-    feed(&host, onward, sizeof onward / sizeof onward[0]);
+    feed(&host, 6, onward, sizeof onward / sizeof onward[0]);
     printf("4. The last two rows struck, worked out again, and fed to the end.\n");
     show_path(&host);
     show_steps(&host, 9);
@@ -210,5 +240,7 @@ int main(void) {
     printf("6. Collapsed: %u segments are left. Decisions: %u.\n", (unsigned)left, (unsigned)decided);
     show_segments(segments, left);
     show_decisions(decisions, decided);
+
+    drive_in_possession(&host);
     return 0;
 }

@@ -1,4 +1,4 @@
-//! The drive of `examples/c/drive.c` through the safe interface: it prints the same text.
+//! The drives of `examples/c/drive.c` through the safe interface: it prints the same text.
 use matcher::{remove_oscillations, Decision, Fix, Journal, Network, Refusal, Segment, Settings, Side};
 
 // ---- The network. Every element runs from west (side 0) to east (side 1).
@@ -25,6 +25,11 @@ const NETWORK: Network = Network {
     to_side: &[0; 5],
     forward: &[1; 5],
     backward: &[1; 5],
+    // A possession: relation 0, of west line and track 1, is shut from minute 120 on and open again at 240. It has one window,
+    // the others none; entries past these counts are not looked at.
+    window_counts: &[1, 0, 0, 0, 0],
+    window_firsts: &[120; 5 * 4],
+    window_lasts: &[240; 5 * 4],
 };
 
 const SETTINGS: Settings = Settings { beta: 20.0, scale: 60.0 };
@@ -66,26 +71,34 @@ struct Host<'a> {
     metres: Vec<f64>,
 }
 
-impl Host<'_> {
+impl<'a> Host<'a> {
+    fn open(words: &'a mut [u32]) -> Result<Self, Refusal> {
+        Ok(Host { journal: Journal::open(words)?, metres: Vec::new() })
+    }
+
     /// A distance for each pair of a candidate of the predecessor and one of the fix: the metres driven since then, which is
     /// near enough to all of them on this straight line.
-    fn feed(&mut self, fixes: &[(f64, Candidates)]) -> Result<(), Refusal> {
-        for (metres, candidates) in fixes {
-            let distances = match self.journal.predecessor()? {
-                Some(p) => vec![metres - self.metres[p.row as usize]; p.candidates * candidates.len()],
-                None => Vec::new(),
-            };
-            let fix = Fix {
-                elements: &Vec::from_iter(candidates.iter().map(|c| c.0)),
-                intrinsics: &Vec::from_iter(candidates.iter().map(|c| c.1)),
-                near: &Vec::from_iter(candidates.iter().map(|c| c.2)),
-                raw_logs: &Vec::from_iter(candidates.iter().map(|c| c.3)),
-                distances: &distances,
-            };
-            self.journal.feed(&NETWORK, SETTINGS, &fix)?;
-            self.metres.push(*metres);
-        }
+    fn feed_one(&mut self, minute: u32, metres: f64, candidates: Candidates) -> Result<(), Refusal> {
+        let distances = match self.journal.predecessor()? {
+            Some(p) => vec![metres - self.metres[p.row as usize]; p.candidates * candidates.len()],
+            None => Vec::new(),
+        };
+        let fix = Fix {
+            minute,
+            elements: &Vec::from_iter(candidates.iter().map(|c| c.0)),
+            intrinsics: &Vec::from_iter(candidates.iter().map(|c| c.1)),
+            near: &Vec::from_iter(candidates.iter().map(|c| c.2)),
+            raw_logs: &Vec::from_iter(candidates.iter().map(|c| c.3)),
+            distances: &distances,
+        };
+        self.journal.feed(&NETWORK, SETTINGS, &fix)?;
+        self.metres.push(metres);
         Ok(())
+    }
+
+    /// A fix a minute, from this one on.
+    fn feed(&mut self, minute: u32, fixes: &[(f64, Candidates)]) -> Result<(), Refusal> {
+        (minute..).zip(fixes).try_for_each(|(minute, (metres, candidates))| self.feed_one(minute, *metres, candidates))
     }
 
     fn strike(&mut self, rows: usize) -> Result<(), Refusal> {
@@ -108,16 +121,16 @@ fn yes_or_no(is_so: bool) -> &'static str {
     }
 }
 
-fn show_route() -> Result<(), Refusal> {
+fn show_route(minute: u32) -> Result<(), Refusal> {
     let (start, goal) = (Side { element: 0, side: 0 }, Side { element: 4, side: 1 });
     let mut states = [0; 4096];
-    let cost = NETWORK.distance(start, goal)?.expect("the lines are joined");
-    let route = NETWORK.route(start, goal, &mut states)?.expect("the lines are joined");
+    let cost = NETWORK.distance(minute, start, goal)?.expect("the lines are joined");
+    let route = NETWORK.route(minute, start, goal, &mut states)?.expect("the lines are joined");
     let mut elements = Vec::from_iter(route.states.iter().map(|state| name(state / 4)));
     elements.dedup();
-    println!("  from end to end: {cost:.0} m, over {}", elements.join(", "));
-    let (through, back) = (NETWORK.is_consistent(1, 3, 4)?, NETWORK.is_consistent(1, 3, 2)?);
-    println!("  track 1, points, east line: {}; track 1, points, track 2: {}", yes_or_no(through), yes_or_no(back));
+    println!("  minute {minute}, from end to end: {cost:.0} m, over {}", elements.join(", "));
+    let (through, back) = (NETWORK.is_consistent(minute, 0, 1, 3)?, NETWORK.is_consistent(minute, 1, 3, 2)?);
+    println!("  west line, track 1, points: {}; track 1, points, track 2: {}", yes_or_no(through), yes_or_no(back));
     Ok(())
 }
 
@@ -127,8 +140,9 @@ fn show_path(host: &Host) -> Result<(), Refusal> {
     println!("  best path, score {:.3}, of {} rows:", path.score, host.metres.len());
     for (row, candidate) in path.rows.iter().zip(path.candidates) {
         let (fed, own) = (host.journal.row(*row)?, *candidate as usize);
-        let metres = host.metres[*row as usize];
-        println!("    row {row:2}  {metres:4.0} m  {:9} at {:.3}", name(fed.elements[own]), fed.intrinsics[own]);
+        let (minute, metres) = (fed.minute, host.metres[*row as usize]);
+        let element = name(fed.elements[own]);
+        println!("    row {row:2}  minute {minute:3}  {metres:4.0} m  {element:9} at {:.3}", fed.intrinsics[own]);
     }
     Ok(())
 }
@@ -161,24 +175,41 @@ fn show_decisions(decisions: &[Decision]) {
     }
 }
 
-// ---- The drive.
+// ---- The drives.
+
+fn drive_in_possession(words: &mut [u32]) -> Result<(), Refusal> {
+    println!("7. The way from west line to track 1 is shut from minute 120 on, until 240.");
+    [119, 120, 240].into_iter().try_for_each(show_route)?;
+
+    let mut host = Host::open(words)?;
+    host.feed(130, &APPROACH)?;
+    host.feed(136, &ONWARD[..3])?;
+    println!("8. The same fixes from minute 130 on, in a journal opened again.");
+    show_path(&host)?;
+
+    let last = host.journal.row(host.metres.len() as u32 - 1)?.minute;
+    let (early, (metres, candidates)) = (last - 1, ONWARD[3]);
+    let refusal = host.feed_one(early, metres, candidates).expect_err("minutes do not fall") as u32;
+    println!("9. A fix of minute {early} is refused with {refusal}: the last row is of minute {last}.");
+    Ok(())
+}
 
 fn main() -> Result<(), Refusal> {
     NETWORK.check()?;
     println!("1. The network is accepted.");
-    show_route()?;
+    show_route(0)?;
 
     let mut words = [0; 1024];
-    let mut host = Host { journal: Journal::open(&mut words)?, metres: Vec::new() };
-    host.feed(&APPROACH)?;
-    host.feed(&AT_THE_PORTAL)?;
+    let mut host = Host::open(&mut words)?;
+    host.feed(0, &APPROACH)?;
+    host.feed(6, &AT_THE_PORTAL)?;
     println!("2. Fed up to the far portal; rows 4 and 5 are in the tunnel.");
     show_path(&host)?;
 
     let refusal = host.journal.strike(9).expect_err("9 rows do not stand");
     println!("3. Striking 9 rows is refused with {}: only {} stand.", refusal as u32, host.metres.len());
     host.strike(2)?;
-    host.feed(&ONWARD)?;
+    host.feed(6, &ONWARD)?;
     println!("4. The last two rows struck, worked out again, and fed to the end.");
     show_path(&host)?;
     show_steps(&host, 9)?;
@@ -193,5 +224,6 @@ fn main() -> Result<(), Refusal> {
     println!("6. Collapsed: {} segments are left. Decisions: {}.", left.len(), decisions.len());
     show_segments(left);
     show_decisions(decisions);
-    Ok(())
+
+    drive_in_possession(&mut words)
 }

@@ -8,10 +8,12 @@ mod calls;
 
 use core::fmt;
 
-/// What Box says no with, by the numbers of document 01.
+/// What Box says no with, by the numbers of documents 01 and 02. Checks run in number order, but for 16, which comes right
+/// after 5, and 17, right after 10.
 #[derive(Clone, Copy, Debug, PartialEq, Eq)]
 pub enum Refusal {
-    /// Too many elements or relations; headings not 4, or flags not 1, per element; relation fields of unequal count.
+    /// Too many elements or relations; headings not 4, or flags not 1, per element; relation fields of unequal count; over 4
+    /// windows of a relation; windows given, but not 1 count, 4 first and 4 last minutes per relation.
     Counts = 1,
     /// An element's length is out of range.
     Length = 2,
@@ -41,6 +43,10 @@ pub enum Refusal {
     Segment = 14,
     /// The list is longer than the answer buffer, or there are fewer decisions than segments.
     Buffer = 15,
+    /// A window's last minute is not after its first; of skipped relations too.
+    Window = 16,
+    /// The fix's minute is below that of the last row that stands, or over 28 bits.
+    Minute = 17,
 }
 
 impl fmt::Display for Refusal {
@@ -49,7 +55,7 @@ impl fmt::Display for Refusal {
     }
 }
 
-const REFUSALS: [Refusal; 15] = [
+const REFUSALS: [Refusal; 17] = [
     Refusal::Counts,
     Refusal::Length,
     Refusal::Heading,
@@ -65,6 +71,8 @@ const REFUSALS: [Refusal; 15] = [
     Refusal::Row,
     Refusal::Segment,
     Refusal::Buffer,
+    Refusal::Window,
+    Refusal::Minute,
 ];
 
 /// Whether there is an answer, by a call's status: 0 done, 255 none, otherwise a refusal's number.
@@ -95,6 +103,12 @@ pub struct Network<'a> {
     pub to_side: &'a [u32],
     pub forward: &'a [u32],
     pub backward: &'a [u32],
+    /// How many windows each relation has, up to 4. A window shuts its relation both ways from its first minute on; at its last
+    /// it is open again. Where there are no windows, this and the two below are empty.
+    pub window_counts: &'a [u32],
+    /// Four per relation; those past its count are not looked at.
+    pub window_firsts: &'a [u32],
+    pub window_lasts: &'a [u32],
 }
 
 /// An element's end: side 0 or 1.
@@ -129,11 +143,13 @@ pub struct Predecessor {
     pub candidates: usize,
 }
 
-/// A position fix: its candidates, field by field, and a distance for each pair of a candidate of the predecessor (outer)
-/// and an own one (inner). `Journal::predecessor` tells which row that is; without one there are no distances.
+/// A position fix: its minute, its candidates, field by field, and a distance for each pair of a candidate of the predecessor
+/// (outer) and an own one (inner). `Journal::predecessor` tells which row that is; without one there are no distances.
 #[derive(Clone, Copy, Default)]
 #[allow(missing_docs)]
 pub struct Fix<'a> {
+    /// Whole minutes from the campaign's start, not below that of the last row that stands.
+    pub minute: u32,
     pub elements: &'a [u32],
     pub intrinsics: &'a [f64],
     pub near: &'a [u32],
@@ -152,6 +168,7 @@ pub const MAX_STEPS: usize = MAX_CANDIDATES * MAX_CANDIDATES;
 pub struct Row {
     pub count: usize,
     pub predecessor_count: usize,
+    pub minute: u32,
     pub elements: [u32; MAX_CANDIDATES],
     pub intrinsics: [f64; MAX_CANDIDATES],
     pub near: [u32; MAX_CANDIDATES],
@@ -214,7 +231,7 @@ impl Decision {
 
 const _: () = assert!(core::mem::size_of::<Segment>() == 32 && core::mem::size_of::<Decision>() == 24);
 
-/// A call with the network's nine slices first. Every pointer and length of a call is of one slice or array that is borrowed for
+/// A call with the network's twelve slices first. Every pointer and length of a call is of one slice or array that is borrowed for
 /// it, exclusively where the call writes, which is all that Box asks.
 macro_rules! on_network {
     ($call:ident, $network:expr $(, $argument:expr)*) => {{
@@ -224,13 +241,15 @@ macro_rules! on_network {
             calls::$call(
                 n.lengths.as_ptr(), n.lengths.len(), n.headings.as_ptr(), n.headings.len(), n.flags.as_ptr(), n.flags.len(),
                 n.from.as_ptr(), n.from.len(), n.to.as_ptr(), n.to.len(), n.from_side.as_ptr(), n.from_side.len(),
-                n.to_side.as_ptr(), n.to_side.len(), n.forward.as_ptr(), n.forward.len(), n.backward.as_ptr(), n.backward.len()
-                $(, $argument)*
+                n.to_side.as_ptr(), n.to_side.len(), n.forward.as_ptr(), n.forward.len(), n.backward.as_ptr(), n.backward.len(),
+                n.window_counts.as_ptr(), n.window_counts.len(), n.window_firsts.as_ptr(), n.window_firsts.len(),
+                n.window_lasts.as_ptr(), n.window_lasts.len() $(, $argument)*
             )
         }
     }};
 }
 
+/// Routes use the relations that are open at the minute, which may be any.
 impl Network<'_> {
     /// The checks that every call on a network makes.
     pub fn check(&self) -> Result<(), Refusal> {
@@ -238,26 +257,34 @@ impl Network<'_> {
     }
 
     /// The cost of the cheapest route in metres.
-    pub fn distance(&self, start: Side, goal: Side) -> Result<Option<f64>, Refusal> {
+    pub fn distance(&self, minute: u32, start: Side, goal: Side) -> Result<Option<f64>, Refusal> {
         let mut cost = 0.0;
-        let status = on_network!(box_shortest_path_distance, self, start.element, start.side, goal.element, goal.side, &mut cost);
+        let status = on_network!(
+            box_shortest_path_distance, self, minute, start.element, start.side, goal.element, goal.side, &mut cost
+        );
         Ok(found(status)?.then_some(cost))
     }
 
     /// The cheapest route, its states in the buffer.
-    pub fn route<'b>(&self, start: Side, goal: Side, states: &'b mut [u32]) -> Result<Option<Route<'b>>, Refusal> {
+    pub fn route<'b>(
+        &self,
+        minute: u32,
+        start: Side,
+        goal: Side,
+        states: &'b mut [u32],
+    ) -> Result<Option<Route<'b>>, Refusal> {
         let (mut cost, mut count) = (0.0, 0);
         let status = on_network!(
-            box_shortest_path_route, self, start.element, start.side, goal.element, goal.side,
+            box_shortest_path_route, self, minute, start.element, start.side, goal.element, goal.side,
             states.as_mut_ptr(), states.len(), &mut cost, &mut count
         );
         Ok(found(status)?.then_some(Route { cost, states: &states[..count] }))
     }
 
     /// Whether three elements can be passed in this order without turning round on the second.
-    pub fn is_consistent(&self, a: u32, b: u32, c: u32) -> Result<bool, Refusal> {
+    pub fn is_consistent(&self, minute: u32, a: u32, b: u32, c: u32) -> Result<bool, Refusal> {
         let mut consistent = 0;
-        done(on_network!(box_triple_is_consistent, self, a, b, c, &mut consistent))?;
+        done(on_network!(box_triple_is_consistent, self, minute, a, b, c, &mut consistent))?;
         Ok(consistent != 0)
     }
 }
@@ -298,7 +325,7 @@ impl<'a> Journal<'a> {
     /// One more row.
     pub fn feed(&mut self, network: &Network, settings: Settings, fix: &Fix) -> Result<(), Refusal> {
         done(on_network!(
-            box_feed, network, settings.beta, settings.scale, self.words.as_mut_ptr(), self.words.len(),
+            box_feed, network, settings.beta, settings.scale, self.words.as_mut_ptr(), self.words.len(), fix.minute,
             fix.elements.as_ptr(), fix.elements.len(), fix.intrinsics.as_ptr(), fix.intrinsics.len(),
             fix.near.as_ptr(), fix.near.len(), fix.raw_logs.as_ptr(), fix.raw_logs.len(),
             fix.distances.as_ptr(), fix.distances.len()
@@ -328,7 +355,7 @@ impl<'a> Journal<'a> {
     pub fn row(&self, number: u32) -> Result<Row, Refusal> {
         const N: usize = MAX_CANDIDATES;
         let mut r = Row {
-            count: 0, predecessor_count: 0, elements: [0; N], intrinsics: [0.0; N], near: [0; N], raw_logs: [0.0; N],
+            count: 0, predecessor_count: 0, minute: 0, elements: [0; N], intrinsics: [0.0; N], near: [0; N], raw_logs: [0.0; N],
             parents: [0; N], scores: [0.0; N], distances: [0.0; MAX_STEPS],
         };
         // SAFETY: as at `on_network`.
@@ -336,13 +363,13 @@ impl<'a> Journal<'a> {
             calls::box_read_row(
                 self.words.as_ptr(), self.words.len(), number, r.elements.as_mut_ptr(), N, r.intrinsics.as_mut_ptr(), N,
                 r.near.as_mut_ptr(), N, r.raw_logs.as_mut_ptr(), N, r.parents.as_mut_ptr(), N, r.scores.as_mut_ptr(), N,
-                r.distances.as_mut_ptr(), MAX_STEPS, &mut r.count, &mut r.predecessor_count,
+                r.distances.as_mut_ptr(), MAX_STEPS, &mut r.count, &mut r.predecessor_count, &mut r.minute,
             )
         })?;
         Ok(r)
     }
 
-    /// The possible steps into a row.
+    /// The possible steps into a row, over the relations that are open at its minute.
     pub fn steps(&self, network: &Network, settings: Settings, row: u32) -> Result<Steps, Refusal> {
         const N: usize = MAX_STEPS;
         let mut s = Steps {
@@ -356,7 +383,8 @@ impl<'a> Journal<'a> {
         Ok(s)
     }
 
-    /// The best path as segments, with those that bridge the gaps; empty where there is no path.
+    /// The best path as segments, with those that bridge the gaps; empty where there is no path. A bridge uses the relations that
+    /// are open at the minute of the first row of the segment it leads to.
     pub fn build<'b>(&self, network: &Network, segments: &'b mut [Segment]) -> Result<&'b mut [Segment], Refusal> {
         let mut count = 0;
         done(on_network!(
