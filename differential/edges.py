@@ -1,5 +1,5 @@
-"""Cases in which each call refuses with each number that it has, and their neighbours that it accepts, at both edges of each range; and the edges at
-which a side pair or a step is possible or a bridge is made."""
+"""Cases in which each call refuses with each number that it has, and their neighbours that it accepts, at both edges of each range; the edges at
+which a side pair or a step is possible or a bridge is made; and those of windows and minutes."""
 
 import itertools
 import math
@@ -69,11 +69,20 @@ DRIVE = "journal 100\n" + feed(candidate()) + SECOND + THIRD
 # The calls over a network, and those over a journal.
 NETWORK_CALLS = ("route 0 0 2 1\n", "triple 0 1 2\n", "steps 2\n", "segments\n", feed())
 JOURNAL_CALLS = ("close\n", "row 2\n", "steps 2\n", "segments\n", feed(), "strike 1\n", "open\n")
-FIELDS = "lengths headings flags from to from_side to_side forward backward".split()
+FIELDS = "lengths headings flags from to from_side to_side forward backward window_counts window_firsts window_lasts".split()
+
+
+def minute(number):
+    return line("minute", number)
 
 
 def start():
-    return network() + SETTINGS + DRIVE
+    return minute(0) + network() + SETTINGS + DRIVE
+
+
+def windows(relation, *pairs):
+    """The windows of a relation, each with its first and last minute."""
+    return line("windows", relation, len(pairs), *itertools.chain(*pairs))
 
 
 def title(number, what):
@@ -84,7 +93,7 @@ def networks():
     """Checks 1 to 5, and their order."""
     yield title(1, "a slice that is too short; one that is not")
     yield start()
-    for field, entries in zip(FIELDS, (3, 12, 3, 2, 2, 2, 2, 2, 2)):
+    for field, entries in zip(FIELDS, (3, 12, 3, 2, 2, 2, 2, 2, 2, 2, 8, 8)):
         for n in (entries - 1, entries):
             yield from (f"short {field} {n}\n{call}" for call in NETWORK_CALLS)
     yield "short headings 11\nroutes\n"
@@ -140,7 +149,7 @@ def places(counts):
     """Where the records of rows with these candidates and predecessor candidates begin, and where the last of them ends."""
     at = [1]
     for c, p in counts:
-        at.append(at[-1] + 7 * c + 2 * c * p + 4)
+        at.append(at[-1] + 7 * c + 2 * c * p + 5)
     return at
 
 
@@ -152,7 +161,7 @@ ENDS = (*ROWS[1:], USED)
 
 def cell(row, number):
     """Where a candidate of DRIVE begins: one word, then its intrinsic, raw log and score."""
-    return ROWS[row] + 2 + 7 * number
+    return ROWS[row] + 3 + 7 * number
 
 
 def distance(row, number):
@@ -232,9 +241,9 @@ def predecessors():
         yield from (word(at, value) + "".join(JOURNAL_CALLS[:-1]) + word(at, right) for value in wrong)
     yield "words\n" + "".join(JOURNAL_CALLS[:-1])
     yield title(7, "rows that a poked score makes scoring or not: the rows behind them must name another predecessor")
-    yield TUNNEL + float_words(TUNNEL_ROWS[5] + 7, -INFINITY) + "".join(JOURNAL_CALLS[:-1])
+    yield TUNNEL + float_words(TUNNEL_ROWS[5] + 8, -INFINITY) + "".join(JOURNAL_CALLS[:-1])
     yield word(TUNNEL_ROWS[6] + 1, 0x70000000 + TUNNEL_ROWS[2]) + "words\nsteps 6\n" + "".join(JOURNAL_CALLS)
-    yield TUNNEL + word(0, 0x50000000 + TUNNEL_ROWS[2]) + float_words(TUNNEL_ROWS[0] + 7, -1.0) + "".join(JOURNAL_CALLS[:-1])
+    yield TUNNEL + word(0, 0x50000000 + TUNNEL_ROWS[2]) + float_words(TUNNEL_ROWS[0] + 8, -1.0) + "".join(JOURNAL_CALLS[:-1])
     yield word(TUNNEL_ROWS[1] + 1, 0x70000000 + TUNNEL_ROWS[0]) + "words\n" + "".join(JOURNAL_CALLS)
     yield title(7, "the predecessor of a row that is fed after a strike")
     yield "".join(TUNNEL + f"strike {rows}\n" + feed() + "words\n" for rows in (1, 2, 3, 4, 5, 6, 8))
@@ -269,19 +278,20 @@ def fixes():
     yield DRIVE + "short distances 1\n" + feed(candidate(), candidate(), distances=(1.0, 1.0))
     yield "journal 400\n" + feed(candidate(), distances=(1.0,))
     yield title(12, "the last word of a journal")
-    for room in (11, 12):
+    for room in (12, 13):
         yield f"journal {room}\n" + feed(candidate()) + "words\n"
-    for room in (0, 1, 4, 5):
+    for room in (0, 1, 5, 6):
         yield f"journal {room}\nopen\n" + feed()
     yield title(12, "the last word of a record, by the candidates of its row and of the predecessor")
     for c, p in itertools.product((0, 1, 2, 16), repeat=2):
         end = places(((p, 0), (c, p)))[-1]
         rows_fed = feed(*(candidate(),) * p) + feed(*(candidate(),) * c, distances=(1.0,) * (c * p))
         yield from (f"journal {room}\n{rows_fed}" for room in (end - 1, end))
-    yield title("8 to 12", "all at once, then without the first of them, and so on")
+    yield title("8 to 10, 17, 12", "all at once, then without the first of them, and so on")
     crowd = (candidate(),) * 17
     for fix in (feed(*crowd, distances=(NAN,)), feed(candidate(3), distances=(NAN,)), feed(candidate(), distances=(NAN,)), feed(candidate())):
-        yield "journal 11\n" + fix
+        yield "journal 12\n" + minute(2**28) + fix
+    yield minute(2**28 - 1) + feed(candidate()) + minute(0) + feed(candidate())
 
 
 def rows():
@@ -395,6 +405,222 @@ def lowest_rows():
         yield "journal 400\n" + feed(candidate(0, raw_log=0.0), candidate(2, raw_log=-745.0)) + feed(candidate(1), distances=(distance, 2.0)) + asked
 
 
+# ---- windows (document 02, K4)
+
+# Routes and triples over relation 0 of RELATIONS, both ways, and over relation 1.
+OVER_BOTH = "route 0 0 2 1\nroute 2 1 0 0\nroute 0 1 1 0\nroute 1 0 0 1\nroute 1 1 2 0\ntriple 0 1 2\ntriple 2 1 0\n"
+LAST_MINUTE = 2**32 - 1
+
+
+def asked_at(minutes, calls=OVER_BOTH):
+    return "".join(minute(number) + calls for number in minutes)
+
+
+def window_edges():
+    """A relation is shut from a window's first minute on, and open again at its last."""
+    yield "\n# windows: the first minute is shut, the last open again, both ways\n" + network() + windows(0, (10, 20))
+    yield asked_at((0, 9, 10, 11, 19, 20, 21, LAST_MINUTE)) + asked_at((9, 10, 19, 20), "routes\n")
+    yield "\n# windows: of one minute, from the first minute on, up to the last there is\n"
+    yield from (windows(1, pair) + asked_at((0, 1, 9, 10, 11, LAST_MINUTE - 1, LAST_MINUTE))
+                for pair in ((10, 11), (0, 1), (0, 10), (10, LAST_MINUTE), (LAST_MINUTE - 1, LAST_MINUTE), (0, LAST_MINUTE)))
+    yield "\n# windows: four of them, which overlap, touch, lie in one another and are in no order; each of the four alone; fewer again; none\n"
+    overlapping = (30, 40), (10, 20), (15, 25), (33, 35)
+    touching = (20, 30), (10, 20), (40, 41), (30, 31)
+    for four in (overlapping, touching):
+        yield network() + windows(0, *four) + asked_at(sorted({number + off for pair in four for number in pair for off in (-1, 0)}))
+    apart = (10, 11), (20, 21), (30, 31), (40, 41)
+    for count in (4, 3, 2, 1, 0):
+        yield windows(0, *apart[:count]) + asked_at((10, 20, 30, 40), "route 0 0 2 1\n")
+    yield "\n# windows: of the second relation alone, of both, of none again with a new network\n"
+    yield network() + windows(1, *apart) + asked_at((10, 40)) + windows(0, (40, 50)) + asked_at((10, 40, 45)) + network() + asked_at((10, 40))
+    yield from window_ways()
+
+
+def window_ways():
+    """Relations that are one way, parallel, skipped, or passed by on a detour."""
+    yield "\n# windows: of relations that are open one way only\n"
+    for flags in ((1, 0), (0, 1), (0, 7)):
+        yield network(relations=(RELATIONS[0][:4] + flags, RELATIONS[1])) + windows(0, (10, 20)) + asked_at((9, 10, 20))
+    yield "\n# windows: of one of two parallel relations, of both, of both at different minutes\n"
+    yield network(relations=(*RELATIONS, (1, 0, 0, 1, 1, 1))) + windows(0, (10, 20)) + asked_at((10,))
+    yield windows(2, (10, 20)) + asked_at((10,)) + windows(2, (15, 25)) + asked_at((10, 15, 19, 20, 24, 25))
+    yield "\n# windows: of a relation that is skipped, and of the one behind it\n"
+    yield network(relations=(RELATIONS[0], (1, 7, 0, 0, 1, 1), RELATIONS[1])) + windows(1, (5, 15)) + windows(2, (10, 20)) + asked_at((5, 10, 15, 20))
+    yield "\n# windows: a detour while the short way is shut\n"
+    yield network(relations=(*RELATIONS, (0, 2, 1, 0, 1, 1))) + windows(2, (10, 20)) + asked_at((9, 10, 20))
+    yield windows(0, (15, 30)) + asked_at((10, 15, 20, 30))
+
+
+# Windows that check 16 refuses.
+FALLING = (10, 10), (10, 9), (0, 0), (LAST_MINUTE, 0), (LAST_MINUTE, LAST_MINUTE)
+FINE = (10, 20)
+
+
+def window_refusals():
+    """Checks 1 and 16 of windows, and their order among the others."""
+    calls = "".join(NETWORK_CALLS)
+    yield title(1, "four windows of a relation, five, six; four again")
+    yield start()
+    yield from (windows(relation, *(FINE,) * count) + calls for relation in (0, 1) for count in (4, 5, 6, 4))
+    yield title(16, "windows whose last minute is not after the first, at each place; one that is")
+    yield start()
+    yield from (windows(relation, falling) + calls for relation in (0, 1) for falling in (*FALLING, (10, 11)))
+    yield from (windows(0, *(FINE,) * place, (10, 10), *(FINE,) * (3 - place)) + calls for place in range(4))
+    yield title(16, "such a window past the count is not looked at; nor is a fifth before check 1")
+    yield windows(0, FINE, FINE, FINE, (9, 8)) + calls + windows(0, FINE, FINE, FINE) + calls + windows(0, FINE, FINE, FINE, FINE, (9, 8)) + calls
+    yield windows(0, (9, 8)) + calls + windows(0) + calls
+    yield title(16, "relations that are skipped, of one unknown element, of two, without a way")
+    for skipped in ((1, 7, 0, 0, 1, 1), (7, 1, 0, 0, 1, 1), (7, 8, 0, 0, 1, 1), (0, 2, 0, 0, 0, 0)):
+        yield start() + network(relations=(*RELATIONS, skipped)) + windows(2, (10, 10)) + calls + windows(2, FINE) + calls
+    yield from window_order()
+
+
+def window_order():
+    """Check 16 behind 1 to 5 and before 6, 7, 9 and 13."""
+    calls = "".join(NETWORK_CALLS)
+    yield title("2 to 5, 16", "all at once, then without the first of them, and so on")
+    faulty = element(0, -1.0), element(1, 360.0), relation(2, 2), (0, 0, 0, 1, 1, 1)
+    for first in range(5):
+        parts = (ELEMENT, ELEMENT, RELATIONS[0], RELATIONS[1])[:first] + faulty[first:]
+        yield start() + network((*parts[:2], ELEMENT), parts[2:]) + windows(0, (5, 5)) + calls
+    yield title("1, 16", "both: five windows behind one that falls; a slice cut short")
+    yield start() + windows(0, *((5, 5),) * 5) + calls + windows(0, (5, 5)) + "".join(f"short to 1\n{call}" for call in NETWORK_CALLS)
+    yield title("16, 6, 7", "all at once, then without the first of them, and so on")
+    yield start() + word(0, 0xFFFFFFFF) + windows(0, (5, 5)) + line("settings", -1.0, 30.0) + calls + windows(0, FINE) + calls + SETTINGS + calls
+    yield title("16, 9, 13", "the same")
+    yield start() + network((ELEMENT,) * 2, RELATIONS[:1]) + windows(0, (5, 5)) + "steps 3\nsegments\n" + feed(candidate(2))
+    yield windows(0, FINE) + "steps 3\nsegments\n" + feed(candidate(2))
+
+
+def window_slices():
+    """The three slices of windows cut short, alone and together; cut to nothing they say that there are none."""
+    slices = "window_counts", "window_firsts", "window_lasts"
+    cuts = [(first, *rest) for first in (0, 1, 2) for rest in itertools.product((0, 4, 8), repeat=2)]
+    yield title(1, "slices of windows cut short: all of them to nothing is no windows")
+    yield start() + windows(0, (10, 20)) + windows(1, (10, 20)) + minute(15)
+    for cut in cuts:
+        yield "".join(f"short {name} {n}\n" for name, n in zip(slices, cut) if n < (2 if name == "window_counts" else 8)) + "route 0 0 2 1\n"
+    no_windows = "".join(f"short {name} 0\n" for name in slices)
+    yield "".join(no_windows + call for call in (*NETWORK_CALLS, "triple 2 1 0\n", "routes\n"))
+    yield title("1, 16", "a window that falls, in slices cut to nothing")
+    route = "route 0 0 2 1\n"
+    yield windows(0, (5, 5)) + route + no_windows + route + route + windows(0, *(FINE,) * 5) + no_windows + route
+    yield title(1, "relations cut short, with their windows and without")
+    one_relation = "".join(f"short {name} 1\n" for name in FIELDS[3:9])
+    one_each = "short window_counts 1\nshort window_firsts 4\nshort window_lasts 4\n"
+    yield windows(0, (30, 40)) + windows(1, (10, 20))
+    yield from (asked_at((15, 30), one_relation + cut + "route 0 0 1 1\n") for cut in ("", one_each, no_windows))
+    yield title(1, "no relations, and no windows")
+    yield network(relations=()) + "route 0 0 0 1\nshort window_firsts 1\nroute 0 0 0 1\n"
+    yield title(1, "windows of the last of 4,096 relations; of one more")
+    for count in (4096, 4097):
+        yield network(relations=(RELATIONS[1],) * (count - 1) + RELATIONS[:1]) + windows(count - 1, (10, 20)) + asked_at((10, 20), route)
+
+
+# ---- minutes of fixes (document 02, K4)
+
+def fed_at(*minutes, fix=feed()):
+    return "".join(minute(number) + fix for number in minutes)
+
+
+def minutes():
+    """Check 17, by the last standing row, an empty one too, and by the 28 bits of a minute."""
+    scoring = feed(candidate())
+    yield title(17, "a minute below that of the last row; equal and later ones; after a strike an earlier one again")
+    yield network() + SETTINGS + "journal 400\n" + fed_at(5, 5, 4, 6, 5, 0, 6, 7) + "words\nstrike 1\n" + fed_at(6) + "strike 2\n" + fed_at(4, 5, 6)
+    yield "strike 4\n" + fed_at(4, 5) + "row 0\nstrike 99\nstrike 2\n" + fed_at(0) + "row 0\nwords\nopen\n" + fed_at(0) + minute(0)
+    yield title(17, "the last row is empty, its predecessor earlier; or does not score")
+    yield "journal 400\n" + minute(5) + scoring + fed_at(8) + "".join(
+        minute(number) + feed(candidate(1), distances=(100.0,)) for number in (4, 5, 7, 8)) + "row 2\nwords\n"
+    yield "journal 400\n" + fed_at(5, fix=feed(candidate(raw_log=-INFINITY))) + fed_at(4, 5, fix=scoring) + minute(9) + "row 0\nrow 1\nwords\n"
+    yield title(17, "the most that 28 bits hold, and one more")
+    for fix in (feed(), scoring):
+        yield from ("journal 400\n" + fed_at(number, fix=fix) + "words\n" for number in (2**28 - 1, 2**28, 2**31, 2**32 - 1))
+    yield "journal 400\n" + fed_at(2**28 - 2, 2**28 - 1, 2**28 - 1, 2**28, 2**28 - 2, 0) + "row 2\nwords\n"
+    yield title("9, 10, 17, 12", "all at once, then without the first of them, and so on")
+    for element, distances in ((3, (NAN,)), (0, (NAN,)), (0, ()), (0, (1.0,))):
+        faulty = feed(candidate(element), distances=distances)
+        yield "journal 13\n" + minute(5) + scoring + minute(4) + faulty + minute(5) + faulty
+    yield "journal 6\n" + fed_at(5, 4, 5, 6, 2**28) + minute(0)
+
+
+# Rows at minutes 5, 7, 7 and 9, the second and third empty.
+TIMES = 5, 7, 7, 9
+TIMED = "journal 100\n" + fed_at(5, fix=feed(candidate())) + fed_at(7, 7) + fed_at(9, fix=feed(candidate(1), distances=(100.0,)))
+*TIMED_ROWS, _ = places(((1, 0), (0, 0), (0, 0), (1, 1)))
+
+
+def minute_words():
+    """Check 7 on the minute of a row. Each word is put right again, so that it alone is refused."""
+    yield title(7, "the minutes of a drive, others in their places, and words of other kinds")
+    yield network() + windows(0, (8, 9)) + SETTINGS + TIMED + "words\n" + "".join(f"row {row}\n" for row in range(4)) + minute(0)
+    for row, time in enumerate(TIMES):
+        earlier, later = (0, *TIMES)[row], (*TIMES, 2**28 - 1)[row + 1]
+        around = {0, earlier - 1, earlier, earlier + 1, time, later - 1, later, later + 1, 2**28 - 1} - {-1, 2**28}
+        values = [0x80000000 + value for value in sorted(around)] + [kind + time for kind in (0, 0x70000000, 0x90000000, 0xF0000000)]
+        at = TIMED_ROWS[row] + 2
+        yield from (word(at, value) + f"row {row}\nclose\nsteps 3\nsegments\nstrike 0\n" + word(at, 0x80000000 + time) for value in values)
+    yield title(7, "minutes that all rise from another, and a fix behind a last minute that was poked")
+    yield "".join(word(at + 2, 0x80000000 + 20 + row) for row, at in enumerate(TIMED_ROWS)) + "words\n" + "".join(JOURNAL_CALLS[:-1]) + fed_at(22, 23)
+    yield TIMED + word(TIMED_ROWS[3] + 2, 0x8FFFFFFF) + fed_at(9, 2**28 - 1) + "words\n" + minute(0)
+
+
+def joined(*distances, first=candidate(0), second=candidate(1)):
+    """Two fixes, the second at some distance of the first."""
+    return feed(first), feed(second, distances=distances)
+
+
+def minute_steps():
+    """A row's steps are those at its own minute, when it is fed and when they are listed."""
+    one, other = joined(100.0)
+    yield "\n# a row's steps at its own minute: shut from 10 on, open again at 20\n" + network() + windows(0, (10, 20))
+    for before, own in ((9, 9), (9, 10), (10, 10), (15, 19), (19, 20), (10, 20), (20, 20), (0, 30)):
+        yield "journal 400\n" + minute(before) + one + minute(own) + other + "row 1\nsteps 1\nclose\n"
+        yield from (minute(number) + "steps 1\nsteps 0\nsegments\n" for number in (0, 15, LAST_MINUTE))
+    yield "\n# across empty rows, whose minutes do not count\n"
+    for minutes in ((9, 10, 20), (9, 9, 10), (10, 15, 20), (9, 15, 19)):
+        before, empty, own = minutes
+        yield "journal 400\n" + minute(before) + one + fed_at(empty) + minute(own) + other + minute(0) + "row 2\nsteps 1\nsteps 2\nclose\n"
+    yield "\n# windows that came after the fix, and went again\n" + network() + "journal 400\n" + minute(10) + one + other + "steps 1\n"
+    yield windows(0, (10, 11)) + "steps 1\nclose\nsegments\n" + windows(0, (9, 10), (11, 12)) + "steps 1\n" + windows(0) + "steps 1\n"
+    yield "\n# a detour while the short way is shut: longer, and of another score\n"
+    yield network(relations=(*RELATIONS, (0, 2, 1, 0, 1, 1))) + windows(2, (10, 20))
+    first, last = joined(100.0, second=candidate(2))
+    yield from ("journal 400\n" + minute(number) + first + last + minute(0) + "row 1\nsteps 1\nsegments\n" for number in (9, 10, 19, 20))
+    yield "\n# some steps of a row are shut, others not\n" + network() + windows(1, (10, 20))
+    yield "journal 400\n" + minute(9) + one + minute(10) + SECOND + THIRD + minute(20) + feed(candidate(1), distances=(100.0,)) + minute(0)
+    yield "".join(f"row {row}\nsteps {row}\n" for row in range(4)) + "close\nsegments\n"
+
+
+# Elements 0 and 2 joined by element 1, and fixes on 0, 0, 2 and 2.
+GROUPS = feed(candidate(0)), feed(candidate(0), distances=(0.0,)), feed(candidate(2), distances=(200.0,)), feed(candidate(2), distances=(0.0,))
+
+
+def grouped_at(*minutes):
+    """Two groups of two rows each, at these minutes."""
+    return "journal 400\n" + "".join(minute(number) + fix for number, fix in zip(minutes, GROUPS)) + minute(0) + "segments\ncollapse built\n"
+
+
+def minute_bridges():
+    """A bridge is one at the minute of the later group's first row."""
+    shut = (9, 9, 10, 20), (9, 9, 10, 10), (0, 10, 19, 20), (0, 9, 19, 19)
+    open_again = (9, 19, 20, 20), (10, 10, 20, 20), (9, 9, 9, 10), (9, 10, 20, 20), (0, 9, 20, 21), (20, 20, 20, 20)
+    times = shut + open_again
+    for relation in (0, 1):
+        yield f"\n# bridges over relation {relation}, shut from 10 on, open again at 20\n" + network() + windows(relation, (10, 20))
+        yield from (grouped_at(*minutes) for minutes in times)
+    for direct in ((0, 2, 1, 0, 1, 1), (2, 0, 0, 1, 1, 1), (0, 2, 1, 0, 1, 0), (2, 0, 0, 1, 0, 1)):
+        yield "\n# no bridge where a relation joins the groups, one while it is shut\n"
+        yield network(relations=(*RELATIONS, direct)) + windows(2, (10, 20))
+        yield from (grouped_at(*minutes) for minutes in times)
+    yield "\n# two bridges, each at its own minute\n" + network() + windows(0, (10, 20))
+    there, back = feed(candidate(2), distances=(200.0,)), feed(candidate(0), distances=(200.0,))
+    for minutes in ((9, 9, 9), (9, 9, 10), (9, 10, 20), (10, 20, 20), (9, 10, 19), (15, 20, 25)):
+        yield "journal 400\n" + "".join(minute(number) + fix for number, fix in zip(minutes, (GROUPS[0], there, back))) + "segments\n"
+    yield minute(0)
+
+
 def cases():
-    kinds = networks, limits, settings, journals, predecessors, fixes, rows, lists, thresholds, lowest_terms, lowest_sums, lowest_rows
+    kinds = (networks, limits, settings, journals, predecessors, fixes, rows, lists, thresholds, lowest_terms, lowest_sums, lowest_rows, window_edges,
+             window_refusals, window_slices, minutes, minute_words, minute_steps, minute_bridges)
     return "".join(part for kind in kinds for part in kind())

@@ -1,5 +1,6 @@
 //! Makes drives on a network, questions about routes, and lists to collapse, as case text.
 
+use crate::checks::{last_minute, MINUTE_LIMIT};
 use crate::document::{Document, LOWEST_POSSIBLE};
 use crate::journal::{place, predecessor, tag, Row};
 use crate::language::{Candidate, Fix, Network, Segment, Settings, Words};
@@ -19,7 +20,7 @@ impl Script<'_> {
     fn say(&mut self, text: &str) {
         self.out.push_str(text);
         self.out.push('\n');
-        let mut words = Words::new(text);
+        let mut words = Words::behind(self.session.network.relations.len(), text);
         while let Some(command) = words.command().expect("our own words") {
             self.session.perform_silently(&command);
         }
@@ -27,6 +28,12 @@ impl Script<'_> {
 
     fn rows(&self) -> Vec<Row> {
         self.session.standing()
+    }
+
+    /// A fix's text, behind its minute if that is another than now.
+    fn feed_text(&self, fix: &Fix) -> String {
+        let minute = if fix.minute == self.session.minute { String::new() } else { format!("minute {}\n", fix.minute) };
+        minute + &fix_text(fix)
     }
 }
 
@@ -43,9 +50,12 @@ struct Habits {
     faults: u32,
     shorts: u32,
     changes: u32,
+    moves: u32,
 }
 
-fn habits(random: &mut Random) -> Habits {
+/// The minute moves in few drives without windows, and in most with some.
+fn habits(random: &mut Random, network: &Network) -> Habits {
+    let has_windows = network.relations.iter().any(|relation| relation.windows.count > 0);
     Habits {
         most_candidates: if random.chance(1) { 16 } else { random.pick(&[1, 2, 2, 3, 3, 3, 4]) },
         near: random.pick(&[0, 30, 70, 90, 100]),
@@ -58,6 +68,7 @@ fn habits(random: &mut Random) -> Habits {
         faults: random.pick(&[0, 0, 0, 0, 10]),
         shorts: if random.chance(5) { 10 } else { 0 },
         changes: if random.chance(3) { 20 } else { 0 },
+        moves: if has_windows { random.pick(&[0, 20, 50, 90]) } else { random.pick(&[0, 0, 0, 30]) },
     }
 }
 
@@ -69,7 +80,7 @@ fn neighbour(random: &mut Random, value: f64) -> f64 {
 
 /// A scale at which a turn between two elements scores about the lowest possible score by itself.
 fn lowest_scale(random: &mut Random, document: &Document) -> f64 {
-    let elements = document.routes.elements() as u32;
+    let elements = document.elements() as u32;
     if elements < 2 {
         return 0.001;
     }
@@ -136,11 +147,11 @@ fn lowest_distance(random: &mut Random, beta: f64, route: f64, turn_term: f64) -
     neighbour(random, if shorter { route - gap } else { route + gap })
 }
 
-/// A distance between two candidates: often the route's length at a side pair, or close to it.
-fn distance(random: &mut Random, habits: &Habits, session: &mut Session<Document>, from: &Candidate, to: &Candidate) -> f64 {
+/// A distance between two candidates at a minute: often the route's length at a side pair, or close to it.
+fn distance(random: &mut Random, habits: &Habits, session: &mut Session<Document>, minute: u32, from: &Candidate, to: &Candidate) -> f64 {
     let (settings, document) = (session.settings, &mut session.core);
     let [out, into] = [(); 2].map(|_| random.below(2));
-    let known = document.route_length(from, out, to, into);
+    let known = document.route_length(minute, from, out, to, into);
     let route = known.unwrap_or(0.0);
     let off = [1e-9, 9.999999999999999e-10, 1.0000000000000002e-9, 5e-10, 0.5, 1.0, 100.0];
     let value: f64 = match random.below(10) {
@@ -162,7 +173,28 @@ fn distance(random: &mut Random, habits: &Habits, session: &mut Session<Document
     }
 }
 
+/// The minute of a fix behind the standing rows: now, or, if it moves, that of the last row, one a little later, or one at the edge of a window.
+fn minute(random: &mut Random, habits: &Habits, script: &Script) -> u32 {
+    let last = last_minute(&script.rows());
+    let now = script.session.minute;
+    let edges: Vec<u32> = networks::edges(&script.session.network).into_iter().filter(|&edge| edge >= last).collect();
+    let minute = match random.below(10) {
+        _ if !random.chance(habits.moves) => now,
+        0 => last,
+        1..=6 if !edges.is_empty() => random.pick(&edges),
+        7 if random.chance(20) => MINUTE_LIMIT - 1,
+        8 => last + random.below(20),
+        _ => now.saturating_add(1),
+    };
+    if minute < last || minute >= MINUTE_LIMIT {
+        last
+    } else {
+        minute
+    }
+}
+
 fn fix(random: &mut Random, habits: &Habits, script: &mut Script) -> Fix {
+    let minute = minute(random, habits, script);
     let rows = script.rows();
     let elements = script.session.network.elements.len() as u32;
     let most = if random.below(400) == 0 { 16 } else { habits.most_candidates };
@@ -171,13 +203,18 @@ fn fix(random: &mut Random, habits: &Habits, script: &mut Script) -> Fix {
     let candidates: Vec<Candidate> = (0..count).map(|_| candidate(random, habits, elements, before)).collect();
     let mut distances = Vec::new();
     for from in before.map_or(&[][..], |fix| &fix.candidates) {
-        distances.extend(candidates.iter().map(|to| distance(random, habits, &mut script.session, from, to)));
+        distances.extend(candidates.iter().map(|to| distance(random, habits, &mut script.session, minute, from, to)));
     }
-    Fix { candidates, distances }
+    Fix { minute, candidates, distances }
 }
 
-/// Puts in a fault that checks 8 to 10 refuse.
-fn spoil(random: &mut Random, fix: &mut Fix) {
+/// Puts in a fault that checks 8 to 10 or 17 refuse, behind a last row of this minute.
+fn spoil(random: &mut Random, fix: &mut Fix, last: u32) {
+    if random.chance(15) {
+        let earlier = last.wrapping_sub(random.between(1, 3));
+        fix.minute = random.pick(&[earlier, earlier, MINUTE_LIMIT, u32::MAX]);
+        return;
+    }
     let Some(first) = fix.candidates.first_mut() else {
         return fix.distances.push(1.0);
     };
@@ -206,7 +243,9 @@ fn fix_text(fix: &Fix) -> String {
 }
 
 const OF_ELEMENTS: &[&str] = &["lengths", "headings", "flags"];
-const OF_RELATIONS: &[&str] = &["from", "to", "from_side", "to_side", "forward", "backward"];
+const OF_RELATIONS: &[&str] =
+    &["from", "to", "from_side", "to_side", "forward", "backward", "window_counts", "window_firsts", "window_lasts"];
+const OF_WINDOWS: &[&str] = &["window_counts", "window_firsts", "window_lasts"];
 const OF_FIX: &[&str] = &["elements", "intrinsics", "near", "raw_logs"];
 const OF_ANSWER: &[&str] = &["answer"];
 const OF_DISTANCES: &[&str] = &["distances"];
@@ -215,12 +254,12 @@ const OF_DECISIONS: &[&str] = &["decisions"];
 /// Cuts one of the slices that the next call takes, or all that belong together.
 fn cut(random: &mut Random, script: &mut Script, taken: &[&[&str]]) {
     let slices = random.pick(taken);
-    let count = random.below(5);
+    let count = if slices == OF_WINDOWS { random.below(2) } else { random.below(5) };
     let one = random.pick(slices);
     let together = random.chance(40);
     for slice in slices.iter().filter(|slice| together || **slice == one) {
         let entries = match *slice {
-            "headings" => 4 * count,
+            "headings" | "window_firsts" | "window_lasts" => 4 * count,
             "decisions" => 6 * count + random.below(6),
             _ => count,
         };
@@ -234,20 +273,24 @@ fn call(random: &mut Random, script: &mut Script, habits: &Habits, taken: &[&[&s
         cut(random, script, taken);
     }
     script.say(text);
-    if random.chance(habits.shorts) && !text.starts_with("feed") {
+    if random.chance(habits.shorts) && !text.contains("feed") {
         script.say("kept");
     }
 }
 
-/// Everything that can be asked about the standing rows.
+/// Everything that can be asked about the standing rows, now and then at another minute, on which none of it hangs.
 fn ask(random: &mut Random, script: &mut Script, habits: &Habits) {
     let rows = script.rows().len();
+    if random.chance(habits.moves) {
+        let any = random.below(30);
+        script.say(&format!("minute {}", random.pick(&[0, any, u32::MAX])));
+    }
     call(random, script, habits, &[OF_ANSWER], "close");
     for row in 0..rows + random.chance(2) as usize {
         call(random, script, habits, &[OF_ANSWER, OF_DISTANCES], &format!("row {row}"));
-        call(random, script, habits, &[OF_ELEMENTS, OF_RELATIONS, OF_ANSWER], &format!("steps {row}"));
+        call(random, script, habits, &[OF_ELEMENTS, OF_RELATIONS, OF_WINDOWS, OF_ANSWER], &format!("steps {row}"));
     }
-    call(random, script, habits, &[OF_ELEMENTS, OF_RELATIONS, OF_ANSWER], "segments");
+    call(random, script, habits, &[OF_ELEMENTS, OF_RELATIONS, OF_WINDOWS, OF_ANSWER], "segments");
     call(random, script, habits, &[OF_DECISIONS], "collapse built");
     if random.chance(10) {
         script.say("kept words");
@@ -267,7 +310,7 @@ fn row_count(random: &mut Random) -> u32 {
     }
 }
 
-/// Other settings, or another network of about as many elements, under the standing rows; some that are refused.
+/// Other settings, other windows, or another network of about as many elements, under the standing rows; some that are refused.
 fn change(random: &mut Random, script: &mut Script) {
     let outside = [-1.0, 0.0009999999999999998, 1_000_000.000_000_000_1, f64::NAN, f64::INFINITY];
     let Settings { mut beta, mut scale } = settings(random, &script.session.core);
@@ -277,7 +320,9 @@ fn change(random: &mut Random, script: &mut Script) {
         _ => (),
     }
     let mut text = format!("settings {} {}", float(beta), float(scale));
-    if random.chance(40) {
+    if random.chance(20) {
+        text = networks::other_windows(random, &script.session.network).unwrap_or(text);
+    } else if random.chance(40) {
         let fewer = random.chance(20) as u32;
         let elements = (script.session.network.elements.len() as u32).saturating_sub(fewer);
         let mut network = networks::sized(random, elements);
@@ -294,9 +339,10 @@ fn leg(random: &mut Random, script: &mut Script, habits: &Habits) {
     for _ in 0..row_count(random) {
         let mut next = fix(random, habits, script);
         if random.chance(habits.faults) {
-            spoil(random, &mut next);
+            spoil(random, &mut next, last_minute(&script.rows()));
         }
-        call(random, script, habits, &[OF_ELEMENTS, OF_RELATIONS, OF_FIX, OF_DISTANCES], &fix_text(&next));
+        let text = script.feed_text(&next);
+        call(random, script, habits, &[OF_ELEMENTS, OF_RELATIONS, OF_WINDOWS, OF_FIX, OF_DISTANCES], &text);
         if random.chance(habits.strikes) {
             let most = script.rows().len().min(if random.chance(70) { 1 } else { usize::MAX });
             script.say(&format!("strike {}", random.below(most as u32 + 1)));
@@ -325,6 +371,19 @@ fn misname(random: &mut Random, script: &mut Script, rows: &[Row]) {
     let row = if !rare.is_empty() && random.chance(50) { random.pick(&rare) } else { random.below(rows.len() as u32) as usize };
     let word = random.pick(&misnamings(rows, row));
     script.say(&format!("poke {} {word:08X}", rows[row].at + 1));
+}
+
+/// Changes the minute of one of the rows: a word of another kind, one below the row before, one after the row behind, or any other.
+fn mistime(random: &mut Random, script: &mut Script, rows: &[Row]) {
+    let row = random.below(rows.len() as u32) as usize;
+    let minute = rows[row].fix.minute;
+    let before = last_minute(&rows[..row]);
+    let after = rows.get(row + 1).map_or(MINUTE_LIMIT - 2, |row| row.fix.minute);
+    let later = (after + 1).min(MINUTE_LIMIT - 1);
+    let times = [minute + 1, before.saturating_sub(1), before, after, later, random.below(30)];
+    let others = [tag(7, minute as usize), tag(9, minute as usize), tag(0, minute as usize)];
+    let words: Vec<u32> = times.map(|time| tag(8, (time % MINUTE_LIMIT) as usize)).into_iter().chain(others).collect();
+    script.say(&format!("poke {} {:08X}", rows[row].at + 2, random.pick(&words)));
 }
 
 /// Writes another count into a row's head word: any of five bits, for its candidates or for its predecessor's.
@@ -360,11 +419,12 @@ fn hurt(random: &mut Random, script: &mut Script, habits: &Habits) {
     match random.below(10) {
         0..=2 if !rows.is_empty() => misname(random, script, &rows),
         3 if !rows.is_empty() => recount(random, script, &rows),
+        4..=5 if !rows.is_empty() => mistime(random, script, &rows),
         _ => damage(random, script),
     }
     let next = fix(random, habits, script);
     ask(random, script, habits);
-    script.say(&fix_text(&next));
+    script.say(&script.feed_text(&next));
     script.say(random.pick(&["strike 0 words", "strike 1", "open close", "words"]));
     ask(random, script, habits);
 }
@@ -372,6 +432,7 @@ fn hurt(random: &mut Random, script: &mut Script, habits: &Habits) {
 pub fn drive(random: &mut Random, out: &mut String, network: &Network) {
     let mut script = Script { out, session: Session::new(Document::new(&Network::default())) };
     script.say(&networks::text(network));
+    script.say(&format!("minute {}", if random.chance(70) { 0 } else { random.below(30) }));
     let Settings { beta, scale } = settings(random, &script.session.core);
     script.say(&format!("settings {} {}", float(beta), float(scale)));
     if random.chance(1) {
@@ -379,7 +440,7 @@ pub fn drive(random: &mut Random, out: &mut String, network: &Network) {
     }
     let words = if random.chance(2) { random.between(1, 200) } else { random.pick(&[10_000, 20_000, 65_536]) };
     script.say(&format!("journal {words}"));
-    let habits = habits(random);
+    let habits = habits(random, network);
     leg(random, &mut script, &habits);
     if random.chance(10) {
         leg(random, &mut script, &habits);
@@ -397,9 +458,12 @@ fn any_element(random: &mut Random, elements: u32) -> u32 {
     }
 }
 
-/// Triples, and routes that may begin or end at unknown sides.
-pub fn questions(random: &mut Random, out: &mut String, elements: u32, count: u32) {
+/// Triples, and routes that may begin or end at unknown sides, each at one of the minutes.
+pub fn questions(random: &mut Random, out: &mut String, elements: u32, minutes: &[u32], count: u32) {
     for _ in 0..count {
+        if minutes.len() > 1 {
+            writeln!(out, "minute {}", random.pick(minutes)).unwrap();
+        }
         let [a, b, c] = [(); 3].map(|_| any_element(random, elements));
         writeln!(out, "triple {a} {b} {c}").unwrap();
         if random.chance(2) {
@@ -449,6 +513,15 @@ pub fn list(random: &mut Random, out: &mut String) {
     out.push_str("collapse built\n");
 }
 
+/// The minutes to ask about a network at: without windows any one, else some about their edges.
+fn minutes(random: &mut Random, network: &Network) -> Vec<u32> {
+    let edges = networks::edges(network);
+    if edges.is_empty() {
+        return vec![random.pick(&[0, 0, 1, u32::MAX])];
+    }
+    (0..3).map(|_| random.pick(&edges)).collect()
+}
+
 /// A network with questions, and perhaps a fault; tells how many pairs of sides it asks for.
 pub fn routes(random: &mut Random, out: &mut String) -> u32 {
     let mut network = networks::network(random);
@@ -456,15 +529,20 @@ pub fn routes(random: &mut Random, out: &mut String) -> u32 {
         networks::spoil(random, &mut network);
     }
     let elements = network.elements.len() as u32;
-    writeln!(out, "{}\nroutes", networks::text(&network)).unwrap();
-    questions(random, out, elements, elements);
-    4 * elements * elements
+    let minutes = minutes(random, &network);
+    writeln!(out, "{}", networks::text(&network)).unwrap();
+    for minute in &minutes {
+        writeln!(out, "minute {minute}\nroutes").unwrap();
+    }
+    questions(random, out, elements, &minutes, elements);
+    4 * elements * elements * minutes.len() as u32
 }
 
 /// A network of up to 1,024 elements (now and then more) with a few routes.
 pub fn large(random: &mut Random, out: &mut String) {
     let elements = if random.chance(5) { random.between(1025, 1100) } else { random.between(100, 1024) };
     let network = networks::sized(random, elements);
-    writeln!(out, "{}", networks::text(&network)).unwrap();
-    questions(random, out, elements, 5);
+    let minutes = minutes(random, &network);
+    writeln!(out, "{}\nminute {}", networks::text(&network), minutes[0]).unwrap();
+    questions(random, out, elements, &minutes, 5);
 }

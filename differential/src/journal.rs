@@ -25,8 +25,8 @@ impl Row {
     /// The words of the record of a row whose predecessor stands at `place`.
     pub fn words(&self, place: usize) -> Vec<u32> {
         let halves = |value: f64| [(value.to_bits() >> 32) as u32, value.to_bits() as u32];
-        let Fix { candidates, distances } = &self.fix;
-        let mut words = vec![tag(1, self.fix.predecessors() << 5 | candidates.len()), tag(7, place)];
+        let Fix { minute, candidates, distances } = &self.fix;
+        let mut words = vec![tag(1, self.fix.predecessors() << 5 | candidates.len()), tag(7, place), tag(8, *minute as usize)];
         for (candidate, cell) in candidates.iter().zip(&self.cells) {
             let named = cell.parent.unwrap_or(31) << 11 | (candidate.near as usize) << 10 | candidate.element as usize;
             words.push(tag(2, named));
@@ -76,11 +76,11 @@ pub fn read(journal: &[u32]) -> Option<Vec<Row>> {
 }
 
 /// The first record's row, whose head word stands at `at`: each field is read from its place, and the words must be those of the row that was read,
-/// on the predecessor that stands among the rows before it.
+/// on the predecessor that stands among the rows before it, and at a minute that is not below theirs.
 fn read_row(words: &[u32], at: usize, rows: &[Row]) -> Option<Row> {
     let count = (words[0] & 31) as usize;
     let before = predecessor(rows).filter(|_| count > 0).map_or(0, |row| rows[row].cells.len());
-    let length = 7 * count + 2 * count * before + 4;
+    let length = 7 * count + 2 * count * before + 5;
     let record = words.get(..length)?;
     let float = |at: usize| f64::from_bits((record[at] as u64) << 32 | record[at + 1] as u64);
     let candidate = |at: usize| Candidate {
@@ -90,11 +90,12 @@ fn read_row(words: &[u32], at: usize, rows: &[Row]) -> Option<Row> {
         raw_log: float(at + 3),
     };
     let cell = |at: usize| Cell { score: float(at + 5), parent: Some((record[at] >> 11 & 31) as usize).filter(|&parent| parent != 31) };
-    let places = || (0..count).map(|number| 2 + 7 * number);
-    let distances = (0..count * before).map(|number| float(3 + 7 * count + 2 * number)).collect();
-    let fix = Fix { candidates: places().map(candidate).collect(), distances };
+    let places = || (0..count).map(|number| 3 + 7 * number);
+    let distances = (0..count * before).map(|number| float(4 + 7 * count + 2 * number)).collect();
+    let fix = Fix { minute: record[2] & 0x0FFF_FFFF, candidates: places().map(candidate).collect(), distances };
     let row = Row { at, fix, cells: places().map(cell).collect() };
-    (in_range(&row, rows.len(), before) && row.words(place(rows)) == record).then_some(row)
+    let rises = row.fix.minute >= checks::last_minute(rows);
+    (rises && in_range(&row, rows.len(), before) && row.words(place(rows)) == record).then_some(row)
 }
 
 fn in_range(row: &Row, number: usize, before: usize) -> bool {

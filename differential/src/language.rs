@@ -1,10 +1,17 @@
 //! The case language: words in, commands out.
 
-/// A network as document 01 has it. A flag is true unless 0.
+/// A network as document 01 has it, with document 02's windows (K4). A flag is true unless 0.
 #[derive(Debug, Clone, Default)]
 pub struct Network {
     pub elements: Vec<Element>,
     pub relations: Vec<Relation>,
+}
+
+impl Network {
+    /// The numbers of the relations that are shut at a minute.
+    pub fn shut_at(&self, minute: u32) -> Vec<usize> {
+        (0..self.relations.len()).filter(|&number| self.relations[number].is_shut(minute)).collect()
+    }
 }
 
 /// Headings: out at side 0, out at side 1, in at side 0, in at side 1.
@@ -23,6 +30,35 @@ pub struct Relation {
     pub to_side: u32,
     pub forward: u32,
     pub backward: u32,
+    pub windows: Windows,
+}
+
+impl Relation {
+    /// Both ways: from a window's first minute on, until its last, at which it is open again.
+    pub fn is_shut(&self, minute: u32) -> bool {
+        self.windows.counted().iter().any(|&(first, last)| first <= minute && minute < last)
+    }
+}
+
+/// A relation's windows: how many it has, and the first and last minute of each. Those past the count are not looked at.
+#[derive(Debug, Clone, Copy, Default, PartialEq, Eq)]
+pub struct Windows {
+    pub count: u32,
+    pub minutes: [(u32, u32); MOST_WINDOWS],
+}
+
+pub const MOST_WINDOWS: usize = 4;
+
+impl Windows {
+    pub fn counted(&self) -> &[(u32, u32)] {
+        &self.minutes[..MOST_WINDOWS.min(self.count as usize)]
+    }
+
+    /// The count of these pairs becomes that of the windows; the first four are stored.
+    pub fn store(&mut self, pairs: &[(u32, u32)]) {
+        self.count = pairs.len() as u32;
+        self.minutes.iter_mut().zip(pairs).for_each(|(stored, &pair)| *stored = pair);
+    }
 }
 
 #[derive(Debug, Clone, Copy, PartialEq, Eq)]
@@ -48,6 +84,7 @@ pub struct Candidate {
 /// Distances: predecessor candidate outer, own candidate inner.
 #[derive(Debug, Clone, Default)]
 pub struct Fix {
+    pub minute: u32,
     pub candidates: Vec<Candidate>,
     pub distances: Vec<f64>,
 }
@@ -75,6 +112,8 @@ pub struct Segment {
 #[derive(Debug, Clone)]
 pub enum Command {
     Network(Network),
+    Windows(u32, Vec<(u32, u32)>),
+    Minute(u32),
     Settings(Settings),
     Journal(u32),
     Open,
@@ -99,19 +138,25 @@ pub enum Command {
 #[derive(Debug, Clone, Copy, PartialEq, Eq)]
 pub struct Stop(pub usize);
 
-/// The words of a text, and how many of them were read.
+/// The words of a text, how many of them were read, and how many relations the network has that was read last.
 pub struct Words<'a> {
     text: &'a str,
     at: usize,
     count: usize,
+    relations: u32,
 }
 
 const SLICES: &str = "lengths headings flags from to from_side to_side forward backward elements intrinsics near raw_logs distances \
-                      answer decisions";
+                      answer decisions window_counts window_firsts window_lasts";
 
 impl<'a> Words<'a> {
     pub fn new(text: &'a str) -> Self {
-        Words { text, at: 0, count: 0 }
+        Words::behind(0, text)
+    }
+
+    /// A text that goes on where the network has so many relations.
+    pub fn behind(relations: usize, text: &'a str) -> Self {
+        Words { text, at: 0, count: 0, relations: relations as u32 }
     }
 
     /// Where in the text the next word is looked for.
@@ -168,7 +213,7 @@ impl<'a> Words<'a> {
 
     fn relation(&mut self) -> Result<Relation, Stop> {
         let [from, to, from_side, to_side, forward, backward] = self.numbers()?;
-        Ok(Relation { from, to, from_side, to_side, forward, backward })
+        Ok(Relation { from, to, from_side, to_side, forward, backward, windows: Windows::default() })
     }
 
     fn numbers<const N: usize>(&mut self) -> Result<[u32; N], Stop> {
@@ -182,20 +227,32 @@ impl<'a> Words<'a> {
     fn network(&mut self) -> Result<Network, Stop> {
         let elements = self.number_up_to(1100)?;
         let relations = self.number_up_to(4200)?;
+        self.relations = relations;
         Ok(Network {
             elements: (0..elements).map(|_| self.element()).collect::<Result<_, _>>()?,
             relations: (0..relations).map(|_| self.relation()).collect::<Result<_, _>>()?,
         })
     }
 
+    fn windows(&mut self) -> Result<Command, Stop> {
+        let relation = self.number()?;
+        if relation >= self.relations {
+            return Err(self.stop());
+        }
+        let count = self.number_up_to(6)?;
+        Ok(Command::Windows(relation, (0..count).map(|_| Ok((self.number()?, self.number()?))).collect::<Result<_, _>>()?))
+    }
+
     fn candidate(&mut self) -> Result<Candidate, Stop> {
         Ok(Candidate { element: self.number()?, intrinsic: self.float()?, near: self.number()?, raw_log: self.float()? })
     }
 
+    /// A fix; its minute is not among its words.
     fn fix(&mut self) -> Result<Fix, Stop> {
         let candidates = self.number_up_to(20)?;
         let distances = self.number_up_to(400)?;
         Ok(Fix {
+            minute: 0,
             candidates: (0..candidates).map(|_| self.candidate()).collect::<Result<_, _>>()?,
             distances: (0..distances).map(|_| self.float()).collect::<Result<_, _>>()?,
         })
@@ -246,8 +303,10 @@ impl<'a> Words<'a> {
         };
         let command = match word {
             "network" => Command::Network(self.network()?),
+            "windows" => self.windows()?,
+            "minute" => Command::Minute(self.number()?),
             "settings" => Command::Settings(Settings { beta: self.float()?, scale: self.float()? }),
-            "journal" => Command::Journal(self.number_up_to(262_144)?),
+            "journal" => Command::Journal(self.number_up_to(400_000)?),
             "open" => Command::Open,
             "feed" => Command::Feed(self.fix()?),
             "strike" => Command::Strike(self.number()?),

@@ -1,6 +1,6 @@
 //! Makes networks, and writes them as case text.
 
-use crate::language::{Element, Network, Relation};
+use crate::language::{Element, Network, Relation, Windows, MOST_WINDOWS};
 use crate::random::Random;
 use std::fmt::Write;
 
@@ -69,12 +69,13 @@ fn relation(random: &mut Random, elements: u32) -> Relation {
         to = if elements < 2 || random.chance(3) { random.pick(&[elements, elements + 1, u32::MAX]) } else { random.below(elements) };
     }
     let (forward, backward) = (flag(random), flag(random));
-    Relation { from, to, from_side: random.below(2), to_side: random.below(2), forward, backward }
+    Relation { from, to, from_side: random.below(2), to_side: random.below(2), forward, backward, windows: Windows::default() }
 }
 
 /// The end of an element to the start of the next, both ways or one.
 fn chain(random: &mut Random, elements: u32) -> Vec<Relation> {
-    let link = |from: u32, one_way: bool| Relation { from, to: from + 1, from_side: 1, to_side: 0, forward: 1, backward: !one_way as u32 };
+    let windows = Windows::default();
+    let link = |from: u32, one_way: bool| Relation { from, to: from + 1, from_side: 1, to_side: 0, forward: 1, backward: !one_way as u32, windows };
     (1..elements).map(|to| link(to - 1, random.chance(15))).collect()
 }
 
@@ -90,11 +91,41 @@ fn relations(random: &mut Random, elements: u32) -> Vec<Relation> {
     relations
 }
 
+/// A window, most often one in the first minutes, so that it shares them with others and with drives.
+fn window(random: &mut Random) -> (u32, u32) {
+    let far = [0, 0, (1 << 28) - 2, (1 << 28) - 1, 1 << 28, u32::MAX - 1];
+    let first = if random.chance(10) { random.pick(&far) } else { random.below(20) };
+    let last = match random.below(8) {
+        0 => u32::MAX,
+        1 => first + 1,
+        _ => first.saturating_add(random.between(1, 9)),
+    };
+    (first, last)
+}
+
+/// Gives some relations windows, one to four, which may overlap.
+fn shut(random: &mut Random, relations: &mut [Relation]) {
+    let count = relations.len() as u32;
+    for _ in 0..random.between(1, 6).min(count) {
+        let pairs: Vec<(u32, u32)> = (0..random.pick(&[1, 1, 1, 2, 3, 4])).map(|_| window(random)).collect();
+        relations[random.below(count) as usize].windows.store(&pairs);
+    }
+}
+
+/// The minutes about the edges of a network's windows.
+pub fn edges(network: &Network) -> Vec<u32> {
+    let windows = network.relations.iter().flat_map(|relation| relation.windows.counted());
+    windows.flat_map(|&(first, last)| [first.saturating_sub(1), first, last.saturating_sub(1), last]).collect()
+}
+
 pub fn sized(random: &mut Random, elements: u32) -> Network {
     let kinds = [Lengths::Few, Lengths::Few, Lengths::Hundreds, Lengths::Tenths, Lengths::Fractions, Lengths::Edges, Lengths::Apart];
     let lengths = random.pick(&kinds);
     let straight = random.chance(30);
-    let relations = relations(random, elements);
+    let mut relations = relations(random, elements);
+    if random.chance(20) {
+        shut(random, &mut relations);
+    }
     Network { elements: (0..elements).map(|_| element(random, lengths, straight)).collect(), relations }
 }
 
@@ -108,7 +139,18 @@ pub fn network(random: &mut Random) -> Network {
     sized(random, elements)
 }
 
-/// Puts in a fault that checks 2 to 5 refuse.
+/// Puts in a fault that checks 1 or 16 refuse: too many windows, or a last one that falls.
+fn spoil_windows(random: &mut Random, windows: &mut Windows) {
+    if random.chance(30) {
+        windows.count = random.pick(&[5, 6]);
+        return;
+    }
+    let mut pairs: Vec<(u32, u32)> = (0..random.below(4)).map(|_| window(random)).collect();
+    pairs.push(random.pick(&[(0, 0), (7, 7), (7, 6), (u32::MAX, 0), (u32::MAX, u32::MAX)]));
+    windows.store(&pairs);
+}
+
+/// Puts in a fault that checks 1 to 5 or 16 refuse.
 pub fn spoil(random: &mut Random, network: &mut Network) {
     let lengths = [-1.0, -0.0, 1_048_576.000_000_000_2, f64::NAN, f64::INFINITY];
     let headings = [360.0, -5e-324, f64::NAN, f64::INFINITY, -90.0];
@@ -122,10 +164,11 @@ pub fn spoil(random: &mut Random, network: &mut Network) {
     }
     if let Some(count @ 1..) = Some(network.relations.len()) {
         let relation = &mut network.relations[relation % count];
-        match random.below(4) {
+        match random.below(5) {
             0 => relation.to_side = random.pick(&[2, u32::MAX]),
             1 => relation.from_side = 2,
             2 => relation.to = relation.from,
+            3 => spoil_windows(random, &mut relation.windows),
             _ => (),
         }
     }
@@ -149,8 +192,33 @@ pub fn text(network: &Network) -> String {
         write!(out, "\n{} {a} {b} {c} {d} {}", float(e.length), e.flag).unwrap();
     }
     for r in &network.relations {
-        let Relation { from, to, from_side, to_side, forward, backward } = r;
+        let Relation { from, to, from_side, to_side, forward, backward, windows: _ } = r;
         write!(out, "\n{from} {to} {from_side} {to_side} {forward} {backward}").unwrap();
     }
+    for (number, r) in network.relations.iter().enumerate().filter(|(_, r)| r.windows.count > 0) {
+        write!(out, "\n{}", windows_text(number, &r.windows)).unwrap();
+    }
     out
+}
+
+/// A relation's windows; those past the fourth, which are not stored, are any.
+pub fn windows_text(relation: usize, windows: &Windows) -> String {
+    let mut out = format!("windows {relation} {}", windows.count);
+    for number in 0..windows.count as usize {
+        let (first, last) = windows.minutes[number % MOST_WINDOWS];
+        write!(out, " {first} {last}").unwrap();
+    }
+    out
+}
+
+/// Other windows of one of the relations, now and then such as are refused; none without a relation.
+pub fn other_windows(random: &mut Random, network: &Network) -> Option<String> {
+    let mut other = network.clone();
+    let number = random.below(network.relations.len() as u32) as usize;
+    let relation = other.relations.get_mut(number)?;
+    shut(random, std::slice::from_mut(relation));
+    if random.chance(10) {
+        spoil_windows(random, &mut relation.windows);
+    }
+    Some(windows_text(number, &relation.windows))
 }

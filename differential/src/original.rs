@@ -1,6 +1,8 @@
-//! Drives the original: hands it a network and fixes, and takes its answers.
+//! Drives the original: hands it a network and fixes, and takes its answers. It knows no windows: relations that are shut are left out of the network
+//! that it gets.
 
-use crate::journal::{Cell, Row};
+use crate::document;
+use crate::journal::{predecessor, Cell, Row};
 use crate::language::{Candidate, Element, Fix, Network, Relation, Segment, Settings, Side};
 use crate::routes::Route;
 use crate::session::{Core, Decision, Path, Step, Unasked};
@@ -13,9 +15,11 @@ use original::path::PathConfig;
 use petgraph::graph::{DiGraph, NodeIndex};
 use std::collections::HashMap;
 
-/// The original's graph of a network, its cache of route costs, and the last decoding.
+/// A network, the original's graph of it without some of its relations, its cache of route costs, and the last decoding.
 #[derive(Default)]
 pub struct Original {
+    network: Network,
+    left_out: Vec<usize>,
     netelements: Vec<Netelement>,
     index: HashMap<String, usize>,
     graph: DiGraph<NetelementSide, f64>,
@@ -154,6 +158,13 @@ pub fn config(settings: Settings) -> PathConfig {
     PathConfig { beta: settings.beta, turn_scale: settings.scale, ..PathConfig::default() }
 }
 
+/// Two fixes of which the second has the first as predecessor, with these logs as the first one's scores.
+fn on_predecessor(before: &Fix, logs: impl Fn(usize) -> f64, fix: &Fix) -> [Fix; 2] {
+    let mut first = Fix { distances: Vec::new(), ..before.clone() };
+    first.candidates.iter_mut().enumerate().for_each(|(number, candidate)| candidate.raw_log = logs(number));
+    [first, fix.clone()]
+}
+
 impl Original {
     /// The original's own call, over the cache as it is.
     pub fn viterbi_decode(&mut self, candidates: &[Vec<CandidateNetElement>], logs: &[Vec<f64>], config: &PathConfig) -> ViterbiResult {
@@ -175,6 +186,36 @@ impl Original {
         self.cache.clear();
     }
 
+    /// Builds the original's graph without these relations; the others keep their order.
+    fn leave_out(&mut self, left_out: Vec<usize>) {
+        let kept = |number: &usize| !left_out.contains(number);
+        let numbers = (0..self.network.relations.len()).filter(kept);
+        let relations: Vec<NetRelation> = numbers.map(|number| netrelation(number, &self.network.relations[number])).collect();
+        (self.graph, self.nodes) = graph::build_topology_graph(&self.netelements, &relations).expect("an accepted network");
+        self.cache.clear();
+        self.last = None;
+        self.left_out = left_out;
+    }
+
+    /// Has the graph be that of a minute.
+    fn go_to(&mut self, minute: u32) {
+        let shut = self.network.shut_at(minute);
+        if shut != self.left_out {
+            self.leave_out(shut);
+        }
+    }
+
+    /// Has the graph be that of all these fixes' minutes. Unasked if they do not all see the same relations.
+    fn go_to_all(&mut self, fixes: &[&Fix]) -> Result<(), Unasked> {
+        let first = fixes.first().map_or(0, |fix| fix.minute);
+        let shut = self.network.shut_at(first);
+        if !fixes.iter().all(|fix| fix.minute == first || self.network.shut_at(fix.minute) == shut) {
+            return Err(Unasked);
+        }
+        self.go_to(first);
+        Ok(())
+    }
+
     fn decode(&mut self, settings: Settings, fixes: &[&Fix]) -> Decoded {
         let result = self.viterbi_decode(&position_candidates(fixes), &raw_logs(fixes), &config(settings));
         let (scores, parents) = original::tables::take();
@@ -187,12 +228,14 @@ impl Original {
         }
     }
 
-    /// Decodes the standing fixes, and perhaps one more. Unasked if the standing rows do not come out as they stand.
+    /// Decodes the standing fixes, and perhaps one more. Unasked if the standing rows do not come out as they stand, or if the minutes do not see the
+    /// same relations.
     fn decoded(&mut self, settings: Settings, rows: &[Row], more: Option<&Fix>) -> Result<Decoded, Unasked> {
         let fixes: Vec<&Fix> = rows.iter().map(|row| &row.fix).chain(more).collect();
         if !(0..fixes.len()).all(|at| fixes[at].predecessors() == asked_for(&fixes[..at], fixes[at])) {
             return Err(Unasked);
         }
+        self.go_to_all(&fixes)?;
         let key = key(settings, &fixes);
         let last = self.last.take().filter(|(last, _)| *last == key);
         let decoded = last.map_or_else(|| self.decode(settings, &fixes), |(_, decoded)| decoded);
@@ -200,36 +243,90 @@ impl Original {
         self.last = Some((key, decoded.clone()));
         clean.then_some(decoded).ok_or(Unasked)
     }
+
+    /// Decodes a fix behind its predecessor alone, at the fix's minute: the predecessor's scores are handed over as the logs of a first row.
+    /// Unasked if one of them is below -745.0, where the original takes a log as that of 0.
+    fn row_alone(&mut self, settings: Settings, rows: &[Row], fix: &Fix) -> Result<Vec<Cell>, Unasked> {
+        self.go_to(fix.minute);
+        let Some(before) = predecessor(rows).map(|row| &rows[row]).filter(|_| !fix.candidates.is_empty()) else {
+            return Ok(self.decode(settings, &[fix]).rows.remove(0));
+        };
+        if before.cells.iter().any(|cell| cell.score.is_finite() && cell.score < document::LOWEST_POSSIBLE) {
+            return Err(Unasked);
+        }
+        let fixes = on_predecessor(&before.fix, |number| before.cells[number].score, fix);
+        Ok(self.decode(settings, &[&fixes[0], &fixes[1]]).rows.remove(1))
+    }
+
+    /// A row's steps, from its predecessor and itself alone, at its minute: they hang on which of the predecessor's scores are finite.
+    fn steps_alone(&mut self, settings: Settings, rows: &[Row], row: usize) -> Vec<Step> {
+        let Some(before) = predecessor(&rows[..row]).filter(|_| !rows[row].cells.is_empty()) else {
+            return Vec::new();
+        };
+        self.go_to(rows[row].fix.minute);
+        let finite = |number: usize| if rows[before].cells[number].score.is_finite() { 0.0 } else { f64::NEG_INFINITY };
+        let fixes = on_predecessor(&rows[before].fix, finite, &rows[row].fix);
+        let steps = self.decode(settings, &[&fixes[0], &fixes[1]]).steps;
+        steps.into_iter().map(|step| Step { before, row, ..step }).collect()
+    }
+
+    /// The segments of these states of a path, on the graph as it is.
+    fn segments_along(&mut self, rows: &[Row], states: Vec<(usize, usize)>) -> Vec<Segment> {
+        let closed = ViterbiSubsequence { states, log_probability: 0.0 };
+        let result = ViterbiResult { subsequences: vec![closed], transition_records: Vec::new() };
+        let candidates = position_candidates(&rows.iter().map(|row| &row.fix).collect::<Vec<_>>());
+        self.build_path_from_viterbi(&result, &candidates).iter().map(segment_of).collect()
+    }
+
+    /// The segments of the standing rows' path, which is ours, from two groups of states at a time: the bridge between them is one at the
+    /// minute of the later one's first row.
+    fn segments_by_twos(&mut self, rows: &[Row]) -> Vec<Segment> {
+        let states = document::close(rows).map_or(Vec::new(), |path| path.states);
+        let element = |&(row, candidate): &(usize, usize)| rows[row].fix.candidates[candidate].element;
+        let groups: Vec<&[(usize, usize)]> = states.chunk_by(|one, next| element(one) == element(next)).collect();
+        let mut segments = self.segments_along(rows, groups.first().map_or(Vec::new(), |group| group.to_vec()));
+        for pair in groups.windows(2) {
+            let (first_row, _) = pair[1][0];
+            self.go_to(rows[first_row].fix.minute);
+            segments.extend_from_slice(&self.segments_along(rows, pair.concat())[1..]);
+        }
+        segments
+    }
 }
 
 impl Core for Original {
     fn adopt(&mut self, network: &Network) {
+        self.network = network.clone();
         self.netelements = network.elements.iter().enumerate().map(|(n, e)| netelement(n, e)).collect();
         self.index = self.netelements.iter().enumerate().map(|(n, e)| (e.id.clone(), n)).collect();
-        let relations: Vec<NetRelation> = network.relations.iter().enumerate().map(|(n, r)| netrelation(n, r)).collect();
-        (self.graph, self.nodes) = graph::build_topology_graph(&self.netelements, &relations).expect("an accepted network");
-        self.cache.clear();
-        self.last = None;
+        self.leave_out(Vec::new());
     }
 
-    fn route(&mut self, from: Side, to: Side) -> Option<Route> {
+    fn route(&mut self, minute: u32, from: Side, to: Side) -> Option<Route> {
+        self.go_to(minute);
         let cost = self.shortest_path_distance(from, to)?;
         let nodes = graph::shortest_path_route(&self.graph, &self.nodes, &side_of(from), &side_of(to)).expect("a route that has a cost");
         Some(Route { cost, states: states_of(&self.graph, &nodes) })
     }
 
-    fn triple(&mut self, elements: [u32; 3]) -> bool {
+    fn triple(&mut self, minute: u32, elements: [u32; 3]) -> bool {
+        self.go_to(minute);
         let [a, b, c] = elements.map(|element| element.to_string());
         viterbi::triple_is_consistent(&a, &b, &c, &self.graph, &self.nodes)
     }
 
     fn row(&mut self, settings: Settings, rows: &[Row], fix: &Fix) -> Result<Vec<Cell>, Unasked> {
-        Ok(self.decoded(settings, rows, Some(fix))?.rows.remove(rows.len()))
+        match self.decoded(settings, rows, Some(fix)) {
+            Ok(mut decoded) => Ok(decoded.rows.remove(rows.len())),
+            Err(Unasked) => self.row_alone(settings, rows, fix),
+        }
     }
 
     fn steps(&mut self, settings: Settings, rows: &[Row], row: usize) -> Result<Vec<Step>, Unasked> {
-        let steps = self.decoded(settings, rows, None)?.steps;
-        Ok(steps.into_iter().filter(|step| step.row == row).collect())
+        match self.decoded(settings, rows, None) {
+            Ok(decoded) => Ok(decoded.steps.into_iter().filter(|step| step.row == row).collect()),
+            Err(Unasked) => Ok(self.steps_alone(settings, rows, row)),
+        }
     }
 
     fn close(&mut self, settings: Settings, rows: &[Row]) -> Result<Option<Path>, Unasked> {
@@ -237,11 +334,10 @@ impl Core for Original {
     }
 
     fn segments(&mut self, settings: Settings, rows: &[Row]) -> Result<Vec<Segment>, Unasked> {
-        let path = self.decoded(settings, rows, None)?.path;
-        let closed = path.map(|path| ViterbiSubsequence { states: path.states, log_probability: path.score });
-        let result = ViterbiResult { subsequences: closed.into_iter().collect(), transition_records: Vec::new() };
-        let candidates = position_candidates(&rows.iter().map(|row| &row.fix).collect::<Vec<_>>());
-        Ok(self.build_path_from_viterbi(&result, &candidates).iter().map(segment_of).collect())
+        match self.decoded(settings, rows, None) {
+            Ok(decoded) => Ok(self.segments_along(rows, decoded.path.map_or(Vec::new(), |path| path.states))),
+            Err(Unasked) => Ok(self.segments_by_twos(rows)),
+        }
     }
 
     fn collapse(&mut self, list: &[Segment]) -> (Vec<Segment>, Vec<Decision>) {

@@ -1,4 +1,4 @@
-//! Document 01's network: states, the search, routes and consistent triples.
+//! Document 01's network as it is at a minute: states, the search, routes and consistent triples.
 
 use crate::language::{Network, Side};
 use std::cmp::Reverse;
@@ -11,8 +11,8 @@ pub struct Route {
     pub states: Vec<u32>,
 }
 
-/// A network with its external edges by node. A node is 2 times element plus side; a state is 2 times node, plus 1 if reached by an
-/// external edge.
+/// A network with the external edges of its open relations by node. A node is 2 times element plus side; a state is 2 times node, plus 1 if
+/// reached by an external edge.
 pub struct Routes {
     lengths: Vec<f64>,
     external: Vec<Vec<u32>>,
@@ -29,10 +29,10 @@ struct Search {
 const NONE: u32 = u32::MAX;
 
 impl Routes {
-    pub fn new(network: &Network) -> Self {
+    pub fn new(network: &Network, minute: u32) -> Self {
         let count = network.elements.len();
         let mut external = vec![Vec::new(); 2 * count];
-        for relation in &network.relations {
+        for relation in network.relations.iter().filter(|relation| !relation.is_shut(minute)) {
             let (a, b) = (2 * relation.from as usize, 2 * relation.to as usize);
             if a >= 2 * count || b >= 2 * count {
                 continue;

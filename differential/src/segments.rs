@@ -1,6 +1,6 @@
-//! Document 01's segments: building them from a path, and collapsing.
+//! Document 01's segments: building them from a path, with document 02's minutes of bridges (K4), and collapsing.
 
-use crate::document::close;
+use crate::document::{close, Document};
 use crate::journal::Row;
 use crate::language::Segment;
 use crate::routes::Routes;
@@ -37,11 +37,16 @@ fn bridge(routes: &mut Routes, from: u32, to: u32) -> Vec<u32> {
     elements
 }
 
-pub fn build(routes: &mut Routes, rows: &[Row]) -> Vec<Segment> {
+/// The routes that a bridge into a group is sought in: those at the minute of its first row.
+fn routes_into<'a>(document: &'a mut Document, rows: &[Row], group: &Segment) -> &'a mut Routes {
+    document.routes_at(rows[group.first as usize].fix.minute)
+}
+
+pub fn build(document: &mut Document, rows: &[Row]) -> Vec<Segment> {
     let mut segments: Vec<Segment> = Vec::new();
     for group in groups(rows) {
         if let Some(Segment { element, last, .. }) = segments.last().copied() {
-            let bridges = bridge(routes, element, group.element);
+            let bridges = bridge(routes_into(document, rows, &group), element, group.element);
             segments.extend(bridges.iter().map(|&element| Segment { element, start: 0.0, end: 1.0, first: last, last }));
         }
         segments.push(group);
@@ -50,10 +55,13 @@ pub fn build(routes: &mut Routes, rows: &[Row]) -> Vec<Segment> {
 }
 
 /// Whether every bridge rests on a route of which there is only one.
-pub fn rests_on_single_routes(routes: &mut Routes, rows: &[Row]) -> bool {
-    groups(rows).windows(2).all(|pair| match routes.cheapest(pair[0].element, pair[1].element) {
-        Some((cost, from, to)) if cost >= 1e-9 => routes.is_single(from, to),
-        _ => true,
+pub fn rests_on_single_routes(document: &mut Document, rows: &[Row]) -> bool {
+    groups(rows).windows(2).all(|pair| {
+        let routes = routes_into(document, rows, &pair[1]);
+        match routes.cheapest(pair[0].element, pair[1].element) {
+            Some((cost, from, to)) if cost >= 1e-9 => routes.is_single(from, to),
+            _ => true,
+        }
     })
 }
 

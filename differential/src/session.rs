@@ -1,8 +1,8 @@
-//! Performs the commands of a case text and writes the answers. Journal and checks are document 01's; what is computed comes from a `Core`.
+//! Performs the commands of a case text and writes the answers. Journal and checks are the documents'; what is computed comes from a `Core`.
 
 use crate::checks;
 use crate::journal::{place, read, tag, used, Cell, Row};
-use crate::language::{bits, Command, Fix, Network, Segment, Settings, Side, Stop, Words};
+use crate::language::{bits, Command, Fix, Network, Segment, Settings, Side, Stop, Windows, Words, MOST_WINDOWS};
 use crate::routes::Route;
 use std::collections::HashMap;
 use std::fmt::Write;
@@ -31,14 +31,14 @@ pub struct Decision {
     pub removed: Vec<u32>,
 }
 
-/// It was not asked: the rows are not those that the fixes give now.
+/// It was not asked: the rows are not those that the fixes give now, or not all minutes see the same relations.
 pub struct Unasked;
 
-/// What computes the answers of accepted calls.
+/// What computes the answers of accepted calls. A fix has its minute; a row's steps are those at its minute.
 pub trait Core {
     fn adopt(&mut self, network: &Network);
-    fn route(&mut self, from: Side, to: Side) -> Option<Route>;
-    fn triple(&mut self, elements: [u32; 3]) -> bool;
+    fn route(&mut self, minute: u32, from: Side, to: Side) -> Option<Route>;
+    fn triple(&mut self, minute: u32, elements: [u32; 3]) -> bool;
     fn row(&mut self, settings: Settings, rows: &[Row], fix: &Fix) -> Result<Vec<Cell>, Unasked>;
     fn steps(&mut self, settings: Settings, rows: &[Row], row: usize) -> Result<Vec<Step>, Unasked>;
     fn close(&mut self, settings: Settings, rows: &[Row]) -> Result<Option<Path>, Unasked>;
@@ -70,6 +70,7 @@ pub struct Session<C: Core> {
     pub core: C,
     pub network: Network,
     pub settings: Settings,
+    pub minute: u32,
     journal: Vec<u32>,
     /// The slices that the next call gets cut short.
     shorts: HashMap<String, usize>,
@@ -106,6 +107,7 @@ impl<C: Core> Session<C> {
             core,
             network: Network::default(),
             settings: Settings::default(),
+            minute: 0,
             journal: Vec::new(),
             shorts: HashMap::new(),
             lost: false,
@@ -122,6 +124,8 @@ impl<C: Core> Session<C> {
     pub fn perform(&mut self, command: &Command) {
         let done = match command {
             Command::Network(network) => self.set_network(network),
+            Command::Windows(relation, pairs) => self.set_windows(*relation as usize, pairs),
+            Command::Minute(minute) => self.set_minute(*minute),
             Command::Settings(settings) => self.set_settings(*settings),
             Command::Poke(at, word) => self.poke(*at as usize, *word),
             Command::Short(slice, count) => self.short(slice, *count as usize),
@@ -148,7 +152,7 @@ impl<C: Core> Session<C> {
         }
     }
 
-    /// Performs a command for what it changes alone: network, settings, journal, or that a slice was cut for it.
+    /// Performs a command for what it changes alone: network, minute, settings, journal, or that a slice was cut for it.
     pub fn perform_silently(&mut self, command: &Command) {
         if matches!(name(command), "" | "open" | "feed" | "strike") || !self.shorts.is_empty() {
             self.perform(command);
@@ -158,9 +162,25 @@ impl<C: Core> Session<C> {
 
     fn set_network(&mut self, network: &Network) -> Result<(), No> {
         self.network = network.clone();
-        if checks::network(network).is_none() {
-            self.core.adopt(network);
+        self.adopt_network();
+        Ok(())
+    }
+
+    /// Has the core work on the whole network, if it passes.
+    fn adopt_network(&mut self) {
+        if checks::network(&self.network).is_none() {
+            self.core.adopt(&self.network);
         }
+    }
+
+    fn set_windows(&mut self, relation: usize, pairs: &[(u32, u32)]) -> Result<(), No> {
+        self.network.relations[relation].windows.store(pairs);
+        self.adopt_network();
+        Ok(())
+    }
+
+    fn set_minute(&mut self, minute: u32) -> Result<(), No> {
+        self.minute = minute;
         Ok(())
     }
 
@@ -193,33 +213,48 @@ impl<C: Core> Session<C> {
         counts.iter().zip(slices).all(|(&entries, (_, per))| entries == per * common).then_some(common)
     }
 
-    /// The network that the call gets, through checks 1 to 5.
+    /// Whether a call on so many relations gets windows: of all of them, or, where the three slices are empty, of none; refused by check 1 else.
+    fn takes_windows(&mut self, relations: Option<usize>) -> Option<bool> {
+        let fields = [("window_counts", 1), ("window_firsts", MOST_WINDOWS), ("window_lasts", MOST_WINDOWS)];
+        let counts = self.common(&fields, self.network.relations.len())?;
+        (counts == 0 || Some(counts) == relations).then_some(counts > 0)
+    }
+
+    /// The network that the call gets, through checks 1 to 5 and 16.
     fn take_network(&mut self) -> Result<Network, No> {
         let relation_fields = [("from", 1), ("to", 1), ("from_side", 1), ("to_side", 1), ("forward", 1), ("backward", 1)];
         let elements = self.common(&[("lengths", 1), ("headings", 4), ("flags", 1)], self.network.elements.len());
         let relations = self.common(&relation_fields, self.network.relations.len());
-        let (Some(elements), Some(relations)) = (elements, relations) else {
+        let windows = self.takes_windows(relations);
+        let (Some(elements), Some(relations), Some(windows)) = (elements, relations, windows) else {
             return Err(No::Refused(1));
         };
         let mut network = self.network.clone();
         network.elements.truncate(elements);
         network.relations.truncate(relations);
+        if !windows {
+            network.relations.iter_mut().for_each(|relation| relation.windows = Windows::default());
+        }
         refuse(checks::network(&network))?;
         Ok(network)
     }
 
+    /// The network that the next call gets; none if it is refused.
+    pub fn next_network(&mut self) -> Option<Network> {
+        let shorts = self.shorts.clone();
+        let network = self.take_network().ok();
+        self.shorts = shorts;
+        network
+    }
+
     /// Has the core work on the network that a call got; the whole one is adopted again behind it.
     fn on<T>(&mut self, network: &Network, call: impl FnOnce(&mut Self) -> T) -> T {
-        let whole = self.network.clone();
-        let is_cut = network.elements.len() != whole.elements.len() || network.relations.len() != whole.relations.len();
-        if !is_cut {
+        if !is_cut(&self.network, network) {
             return call(self);
         }
         self.core.adopt(network);
         let result = call(self);
-        if checks::network(&whole).is_none() {
-            self.core.adopt(&whole);
-        }
+        self.adopt_network();
         result
     }
 
@@ -249,7 +284,8 @@ impl<C: Core> Session<C> {
         let distances = self.entries("distances", fix.distances.len());
         let fields = [("elements", 1), ("intrinsics", 1), ("near", 1), ("raw_logs", 1)];
         let count = self.common(&fields, fix.candidates.len())?;
-        Some(Fix { candidates: fix.candidates[..count].to_vec(), distances: fix.distances[..distances].to_vec() })
+        let (candidates, distances) = (fix.candidates[..count].to_vec(), fix.distances[..distances].to_vec());
+        Some(Fix { minute: self.minute, candidates, distances })
     }
 
     fn feed(&mut self, fix: &Fix) -> Result<(), No> {
@@ -314,7 +350,7 @@ impl<C: Core> Session<C> {
         let (room, distances) = (self.entries("answer", usize::MAX), self.entries("distances", usize::MAX));
         let Row { fix, cells, .. } = self.rows()?.get(row).cloned().ok_or(No::Refused(13))?;
         refuse_if(cells.len() > room || fix.distances.len() > distances, 15)?;
-        self.line(format_args!("row {} {}", fix.candidates.len(), fix.predecessors()));
+        self.line(format_args!("row {} {} {}", fix.candidates.len(), fix.predecessors(), fix.minute));
         for (c, cell) in fix.candidates.iter().zip(cells) {
             let parent = cell.parent.unwrap_or(31);
             let (intrinsic, raw_log, score) = (bits(c.intrinsic), bits(c.raw_log), bits(cell.score));
@@ -345,7 +381,8 @@ impl<C: Core> Session<C> {
 
     fn route(&mut self, from: Side, to: Side) -> Result<(), No> {
         let (network, room) = (self.take_network(), self.entries("answer", usize::MAX));
-        let route = self.on(&network?, |session| session.core.route(from, to));
+        let minute = self.minute;
+        let route = self.on(&network?, |session| session.core.route(minute, from, to));
         let Some(Route { cost, states }) = route else {
             self.line(format_args!("route none"));
             return Ok(());
@@ -365,7 +402,8 @@ impl<C: Core> Session<C> {
 
     fn triple(&mut self, elements: [u32; 3]) -> Result<(), No> {
         let network = self.take_network()?;
-        let consistent = self.on(&network, |session| session.core.triple(elements));
+        let minute = self.minute;
+        let consistent = self.on(&network, |session| session.core.triple(minute, elements));
         self.line(format_args!("triple {}", if consistent { "yes" } else { "no" }));
         Ok(())
     }
@@ -432,6 +470,12 @@ impl<C: Core> Session<C> {
     }
 }
 
+/// Whether a network that a call got lacks elements, relations or windows of the whole one.
+fn is_cut(whole: &Network, network: &Network) -> bool {
+    let windows = |network: &Network| network.relations.iter().map(|relation| relation.windows).collect::<Vec<_>>();
+    network.elements.len() != whole.elements.len() || windows(network) != windows(whole)
+}
+
 /// Every known side to every known side, in order of element and side.
 pub fn side_pairs(elements: usize) -> impl Iterator<Item = (Side, Side)> {
     let nodes = 2 * elements as u32;
@@ -455,6 +499,6 @@ pub fn name(command: &Command) -> &'static str {
         Command::Segments => "segments",
         Command::Collapse(_) | Command::CollapseBuilt => "collapse",
         Command::Kept => "kept",
-        Command::Network(_) | Command::Settings(_) | Command::Poke(..) | Command::Short(..) => "",
+        Command::Network(_) | Command::Windows(..) | Command::Minute(_) | Command::Settings(_) | Command::Poke(..) | Command::Short(..) => "",
     }
 }

@@ -78,7 +78,11 @@ impl Comparison<'_> {
     /// Whether two different answers are walks of the least cost, of which there are several. They may differ in length: where the buffer is
     /// short, the longer one is refused.
     fn other_walk(&mut self, from: Side, to: Side, one: &[&str], other: &[&str]) -> bool {
-        let routes = &mut self.session.core.routes;
+        let minute = self.session.minute;
+        let Some(mut document) = self.asked() else {
+            return false;
+        };
+        let routes = document.routes_at(minute);
         let Some(least) = routes.cost(from, to) else {
             return false;
         };
@@ -89,6 +93,11 @@ impl Comparison<'_> {
         };
         let both_fair = fair(one, &one_route) && fair(other, &other_route);
         both_fair && (one_route.is_some() || other_route.is_some()) && !routes.is_single(from, to)
+    }
+
+    /// What answers the next call by document 01, on the network that it gets; none if that is refused.
+    fn asked(&mut self) -> Option<Document> {
+        self.session.next_network().map(|network| Document::new(&network))
     }
 
     fn route(&mut self, case: &str, from: Side, to: Side) {
@@ -124,11 +133,12 @@ impl Comparison<'_> {
 
     fn perform(&mut self, case: &str, command: &Command) {
         match command {
-            Command::Network(_) | Command::Settings(_) | Command::Poke(..) | Command::Short(..) => (),
+            _ if name(command).is_empty() => (),
             Command::Route(from, to) => self.route(case, *from, *to),
             Command::Routes => {
                 for (from, to) in side_pairs(self.session.network.elements.len()) {
                     self.route(case, from, to);
+                    self.session.perform_silently(&Command::Route(from, to));
                 }
             }
             Command::Segments => self.plain(case, command, Self::on_several_walks),
@@ -144,7 +154,7 @@ impl Comparison<'_> {
     /// Whether a bridge of the standing path rests on one of several least walks.
     fn on_several_walks(&mut self) -> bool {
         let rows = self.session.standing();
-        !rests_on_single_routes(&mut self.session.core.routes, &rows)
+        self.asked().is_some_and(|mut document| !rests_on_single_routes(&mut document, &rows))
     }
 }
 
