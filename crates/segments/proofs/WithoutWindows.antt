@@ -2,17 +2,16 @@
 use Prim.Native.Nat.{ℕ, suc, _-_}
 use mathlib.Core.Path.{_≡_, refl, sym, ap, fun-ext, _∙_}
 use mathlib.Core.Bool.{Bool, true, false, cond}
-use mathlib.Core.List.{List, [], _∷_, _++_, map, reverse}
+use mathlib.Core.List.{List, [], _∷_, _++_, map}
 use mathlib.Core.Option.{Option, none, some}
 use lib.Dec.{eqb}
-use lib.ListN.{length, getD, length-map, List·getD-map}
+use lib.ListN.{length, length-map, List·getD-map}
 use Rattle.network.specs.Network.{Network, NoWindows, checked}
 use Rattle.network.specs.Graph.{Graph, graph}
 use Rattle.network.specs.Triple.{consistent}
 use Rattle.network.proofs.NoWindows.{graph-open}
 use Rattle.routing.specs.Route.{route, routeStates, distanceBy, distanceAnswer}
-use Rattle.journal.specs.Row.{Fix, Row, noParent, cellOf, scores, predecessor}
-use Rattle.transition.specs.Track.{Track}
+use Rattle.journal.specs.Row.{Fix, Row, cellOf, scores, predecessor}
 use Rattle.transition.specs.Routes.{routesBy}
 use Rattle.transition.specs.Step.{stepOn, transition}
 use Rattle.transition.specs.declared.step.Settings.{Settings}

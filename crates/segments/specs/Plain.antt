@@ -2,7 +2,6 @@
 -- `proofs/WithoutWindows.antt` proves that they still are where no relation has a window, whatever the minutes.
 use Prim.Native.Nat.{ℕ}
 use mathlib.Core.Path.{_≡_}
-use mathlib.Core.Bool.{Bool}
 use mathlib.Core.List.{List, [], _∷_, _++_, map}
 use Rattle.network.specs.Network.{Network, checked}
 use Rattle.network.specs.Graph.{Graph, graphOf, graph}

@@ -78,7 +78,9 @@ fn begin_at(
     room: usize,
 ) -> Building
     ghost { Network }
-    requires { λ net. ⌜ networkOf (now lengths) (now headings) (now flags) (now from) (now to) (now «from_side») (now «to_side») (now forward) (now backward) (now «window_counts») (now «window_firsts») (now «window_lasts») ≡ net ⌝ }
+    requires { λ net.
+        ⌜ networkOf (now lengths) (now headings) (now flags) (now from) (now to) (now «from_side») (now «to_side») (now forward) (now backward)
+        (now «window_counts») (now «window_firsts») (now «window_lasts») ≡ net ⌝ }
     requires { λ net. ⌜ checked net ≡ Checked.Accepted ⌝ }
     requires { λ _. ⌜ Scoring (now journal) standing used place candidates ⌝ }
     ensures { λ net r. ⌜ OpenedAt net (now (journal .entry)) room r ⌝ }
@@ -140,7 +142,9 @@ fn begin_read(
     room: usize,
 ) -> Building
     ghost { Network }
-    requires { λ net. ⌜ networkOf (now lengths) (now headings) (now flags) (now from) (now to) (now «from_side») (now «to_side») (now forward) (now backward) (now «window_counts») (now «window_firsts») (now «window_lasts») ≡ net ⌝ }
+    requires { λ net.
+        ⌜ networkOf (now lengths) (now headings) (now flags) (now from) (now to) (now «from_side») (now «to_side») (now forward) (now backward)
+        (now «window_counts») (now «window_firsts») (now «window_lasts») ≡ net ⌝ }
     requires { λ net. ⌜ checked net ≡ Checked.Accepted ⌝ }
     ensures { λ net r. ⌜ Opened net (now (journal .entry)) room r ⌝ }
 {
