@@ -1,5 +1,5 @@
--- Document 01, "Fix and row" (the minute: document 02, K4): fixes, and rows as the journal holds them. Lists of fixes and of rows are newest first, so that a feed is ∷ and a
--- strike is drop.
+-- Document 01, "Fix and row" (the minute: document 02, K4): fixes, and rows as the journal holds them. Lists of fixes and of rows are newest
+-- first, so that a feed is ∷ and a strike is drop.
 use Prim.Native.Nat.{ℕ, _+_, _*_}
 use mathlib.Core.Bool.{Bool, true, cond}
 use mathlib.Core.List.{List, [], _∷_, map}

@@ -52,7 +52,7 @@ plainBuilt net (g ∷ h ∷ gs) = segmentOf g ∷ map (bridge (g .«last_row»))
 abbrev pub plainSegments : Network → List Row → List Segment
 plainSegments net rs = plainBuilt net (groupsClosed rs (closing rs))
 
--- ---- the promise: of every fixes, at whatever minutes, what the same fixes gave
+-- ---- the promise: at whatever minutes, what the same fixes gave
 
 pub record AsBefore (net : Network) : Type 0 where
   pub route-cost : (minute element side element′ side′ : ℕ) → route (graph net minute) element side element′ side′ ≡ route (plainGraph net) element side element′ side′
