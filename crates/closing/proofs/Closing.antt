@@ -28,7 +28,8 @@ use Rattle.rows.specs.inner.Scoring.{RecordStands, previousOf}
 use Rattle.rows.specs.declared.previous.Previous.{Previous}
 use Rattle.decoder.specs.Closing.{Pairs, Closed, nothing, path, closing}
 use Rattle.decoder.specs.Call.{gave, refused, pathLength, closeRead, closingOn}
-use Rattle.closing.specs.inner.Walk.{rowsRead, rowsIn, firstRows, Reached, pathFrom, column, Scoring}
+use Rattle.journal.specs.inner.Rows.{rowsIn, rowsRead}
+use Rattle.closing.specs.inner.Walk.{firstRows, Reached, pathFrom, column, Scoring}
 use Rattle.closing.specs.Close.{PairField, pairRow, pairCandidate, closeAnswer, closeStored}
 use Rattle.closing.specs.declared.walk.Back.{Back}
 use Rattle.closing.specs.declared.close.Closing.the-variants.{Path}

@@ -3,7 +3,6 @@ pub mod Records
 pub mod Best
 pub mod Steps
 pub mod Storing
-pub mod Buffers
 pub mod Rows
 pub mod Predecessor
 pub mod Room

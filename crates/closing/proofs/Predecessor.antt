@@ -4,10 +4,10 @@ use mathlib.Core.Path.{_≡_, ap, _∙_}
 use mathlib.Core.List.{List}
 use mathlib.Core.Option.{some}
 use borrow.Author.Tests.{lt-ltb}
-use Rattle.journal.specs.Row.{Row, predecessor, predecessorNumber}
+use Rattle.journal.specs.Row.{Row, noRow, predecessor, predecessorNumber}
 use Rattle.journal.specs.Journal.{readJournal}
 use Rattle.journal.proofs.Preceding.{number-at}
-use Rattle.closing.specs.Row.{RowBuffers, rowFitted, noRow, readingRead, reading}
+use Rattle.closing.specs.Row.{RowBuffers, rowFitted, readingRead, reading}
 
 pub predecessor-read : (s : List ℕ) (rs : List Row) (p : Row) (b : RowBuffers) → readJournal s ≡ some rs → predecessor rs ≡ some p → reading s (predecessorNumber rs) b ≡ rowFitted b p
 unfolding reading

@@ -2,21 +2,21 @@
 use Prim.Native.Nat.{ℕ, suc, _*_, _-_, _<_, _≤_}
 use native.Mathlib.Nat.{mul-le-mul}
 use native.Mathlib.Omega.{arith}
-use mathlib.Core.Path.{_≡_, refl, ap, _∙_}
+use mathlib.Core.Path.{_≡_, refl}
 use mathlib.Core.Bool.{Bool, true, false, cond}
-use mathlib.Core.List.{List, _∷_}
+use mathlib.Core.List.{List}
 use mathlib.Core.Option.{Option, none, some}
 use borrow.Author.Tests.{le-leb}
-use lib.Dec.{T, ltb, ltb→lt}
-use lib.ListN.{length, getD, drop}
+use lib.Dec.{ltb, ltb→lt}
+use lib.ListN.{length, drop}
 use lib.Seq.{drop-cons}
 use Rattle.binary64.proofs.Order.{taken}
-use Rattle.journal.specs.Row.{Row, rowSize}
+use Rattle.journal.specs.Row.{Row, noRow, rowSize, rowNumber}
 use Rattle.journal.specs.Ranges.{candidateLimit}
 use Rattle.journal.specs.Journal.{readJournal}
 use Rattle.journal.specs.WellFormed.{RowFits}
 use Rattle.journal.proofs.Places.{row-obeys}
-use Rattle.closing.specs.Row.{RowBuffers, candidateRoom, Reading, gives, refused, rowFitted, noRow, rowNumber, readingRead, reading}
+use Rattle.closing.specs.Row.{RowBuffers, candidateRoom, gives, refused, rowFitted, readingRead, reading}
 
 two-readings : {A : Type 0} {i k : ℕ} → refused i ≡ refused k → (i ≡ k → ⊥) → A
 two-readings {i = i} {k = k} e n = let same : i ≡ k = cc in absurd (n same)

@@ -8,25 +8,25 @@ use borrow.Author.Tests.{le-leb, lt-leb, lt-ltb, le-ltb}
 use lib.ListN.{length, getD, drop, length-map, List·getD-map, length-drop}
 use lib.Seq.{drop-cons}
 use lib.Ieee.{Float, nan}
-use Rattle.journal.specs.Row.{Cell, noCell, rowSize, cellOf}
+use Rattle.journal.specs.Row.{Cell, noCell, noRow, rowSize, cellOf, rowNumber}
 use Rattle.journal.specs.Record.{firstCell, floatAt, readDistance, recordLength, readRow}
 use Rattle.journal.specs.Journal.{words, predecessorPlace}
+use Rattle.journal.specs.Buffer.{storedFirst}
+use Rattle.journal.specs.inner.Buffer.{entriesStored, FieldsStand, FloatsStand, RecordWhole}
 use Rattle.journal.specs.inner.Strike.{RowsAtLeast, endRead, endOf}
 use Rattle.journal.specs.inner.Check.{survey}
 use Rattle.journal.specs.declared.check.Predecessor.{Predecessor}
 use Rattle.journal.specs.declared.check.Survey.the-variants.{NotWellFormed, WellFormed}
 use Rattle.journal.specs.WellFormed.{Obey}
+use Rattle.journal.proofs.Buffers.{entries-listed}
 use Rattle.journal.proofs.Tests.{cell-at}
 use Rattle.journal.proofs.Records.{length-each}
-use Rattle.journal.proofs.RecordRead.{row-size, row-cell, row-distance}
+use Rattle.journal.proofs.RecordRead.{row-size, row-before, row-cell, row-distance}
 use Rattle.journal.proofs.Reading.{length-record}
 use Rattle.journal.proofs.Ends.{Surveyed, survey-rows, survey-no, struck-stand}
 use Rattle.journal.proofs.Places.{row-obeys, row-at, row-inside}
-use Rattle.closing.specs.inner.Buffer.{entriesStored, FieldsStand, FloatsStand, RecordWhole}
-use Rattle.closing.specs.Buffer.{storedFirst}
-use Rattle.closing.specs.Row.{RowBuffers, rowBuffersOf, candidateRoom, gives, refused, rowFitted, noRow, rowNumber, readingRead, reading, rowAnswer, filled}
+use Rattle.closing.specs.Row.{RowBuffers, rowBuffersOf, candidateRoom, gives, refused, rowFitted, readingRead, reading, rowAnswer, filled}
 use Rattle.closing.specs.declared.row.RowRead.the-variants.{Row as RowAnswer}
-use Rattle.closing.proofs.Buffers.{entries-listed}
 
 -- ---- the fields of the row, by their places
 
@@ -51,16 +51,12 @@ module _ (ws : List ℕ) where
   abbrev count : ℕ
   count = getD ws 0 0 % 32
 
-  pub row-before : readRow ws .before ≡ getD ws 0 0 / 32 % 32
-  unfolding readRow
-  row-before = refl
-
   pub row-number : length (readRow ws .distances) ≡ count * (getD ws 0 0 / 32 % 32)
   unfolding readRow
   row-number = length-each readDistance 2 (count * (getD ws 0 0 / 32 % 32)) (drop 1 (drop (7 * count) (drop firstCell ws)))
 
   float-distance : (d : Float) (k : ℕ) → k < count * (getD ws 0 0 / 32 % 32) → floatAt ws (firstCell + 7 * count + 1 + 2 * k) ≡ getD (readRow ws .distances) k d
-  float-distance d k h = let few : k < rowSize (readRow ws) * readRow ws .before = rw (row-size ws, row-before) h in sym (row-distance ws d k few ∙ rw (row-size ws))
+  float-distance d k h = let few : k < rowSize (readRow ws) * readRow ws .before = rw (row-size ws, row-before ws) h in sym (row-distance ws d k few ∙ rw (row-size ws))
 
   -- a candidate's fields
   abbrev plain : ℕ → Cell
@@ -89,12 +85,12 @@ module _ (ws : List ℕ) where
     -- its length, by what is read
     long : 7 * count + 2 * (count * (getD ws 0 0 / 32 % 32)) + 5 ≤ length ws
     unfolding recordLength
-    long = rw (many, row-before) at (h .room)
+    long = rw (many, row-before ws) at (h .room)
 
     product : count * (getD ws 0 0 / 32 % 32) ≤ 256
     product =
         let few : count ≤ 16 = omega (arith, many, h .few) in
-        let few-before : getD ws 0 0 / 32 % 32 ≤ 16 = omega (arith, row-before, h .few-before) in
+        let few-before : getD ws 0 0 / 32 % 32 ≤ 16 = omega (arith, row-before ws, h .few-before) in
         mul-le-mul few few-before
 
     pub some-words : 0 < length ws
@@ -134,7 +130,7 @@ module _ (ws : List ℕ) where
 
         pub row-answer : RowAnswer count (getD ws 0 0 / 32 % 32) (readRow ws .minute) ≡ rowAnswer (rowFitted b (readRow ws))
         unfolding rowAnswer
-        row-answer = rw (row-fits, row-size ws, row-before)
+        row-answer = rw (row-fits, row-size ws, row-before ws)
 
         -- where each float is read
         at : (i k : ℕ) → floatAt ws (firstCell + i + 7 * k) ≡ floatAt ws (firstCell + 7 * k + i)

@@ -15,7 +15,7 @@ use lib.Ieee.Fits.{and-r}
 use Rattle.lists.proofs.Lists.{drop-stored}
 use Rattle.binary64.specs.Values.{pzero}
 use Rattle.binary64.specs.Ranges.{inRange}
-use Rattle.journal.specs.Row.{Cell, Row, noParent, noCell, rowSize, cellOf, scoreOf, scores, predecessor, sizeOf, latestMinute}
+use Rattle.journal.specs.Row.{Cell, Row, noParent, noCell, noRow, rowSize, cellOf, scoreOf, scores, predecessor, sizeOf, latestMinute, rowNumber}
 use Rattle.journal.specs.Ranges.{rowLimit, lowestScore, parentOk, scoreOk, cellOk}
 use Rattle.journal.specs.Record.{firstCell, recordLength, readRow}
 use Rattle.journal.specs.Journal.{words, predecessorPlace, recordOn}
@@ -28,9 +28,9 @@ use Rattle.journal.proofs.Ends.{formed, back, Ended, ended-room, ended-turn}
 use Rattle.journal.proofs.Places.{row-obeys, row-at, row-inside, row-names}
 use Rattle.rows.specs.inner.Scoring.{CandidateStands}
 use Rattle.decoder.specs.Closing.{follow}
-use Rattle.closing.specs.inner.Walk.{rowsIn, firstRows, Reached, pathFrom, over, pairStored, column}
+use Rattle.journal.specs.inner.Rows.{rowsIn}
+use Rattle.closing.specs.inner.Walk.{firstRows, Reached, pathFrom, over, pairStored, column}
 use Rattle.closing.specs.Close.{PairField}
-use Rattle.closing.specs.Row.{noRow, rowNumber}
 use Rattle.closing.specs.declared.walk.Back.{Back}
 use Rattle.closing.proofs.Records.{row-candidate}
 

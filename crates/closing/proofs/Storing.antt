@@ -9,7 +9,8 @@ use lib.Dec.{ltb}
 use lib.ListN.{length, drop, set, length-set}
 use Rattle.journal.specs.Row.{Row, noParent}
 use Rattle.decoder.specs.Closing.{Pairs, follow}
-use Rattle.closing.specs.inner.Walk.{rowsIn, firstRows, Reached, RecordLeft, pathFrom, over, pairStored, column}
+use Rattle.journal.specs.inner.Rows.{rowsIn}
+use Rattle.closing.specs.inner.Walk.{firstRows, Reached, RecordLeft, pathFrom, over, pairStored, column}
 use Rattle.closing.specs.Close.{PairField}
 use Rattle.closing.specs.declared.walk.Back.{Back}
 use Rattle.closing.proofs.Steps.{drop-length, over-column}

@@ -1,5 +1,4 @@
 -- What the contracts of `closing` cite: what closing and reading a row answer.
 pub mod Close
-pub mod Buffer
 pub mod Row
 pub mod inner

@@ -1,14 +1,14 @@
 -- Reading a row of the journal back.
-use Prim.Native.Nat.{ℕ, suc, _-_, min}
+use Prim.Native.Nat.{ℕ, min}
 use mathlib.Core.Bool.{cond}
-use mathlib.Core.List.{List, [], map}
+use mathlib.Core.List.{List, map}
 use mathlib.Core.Option.{Option, none, some}
 use lib.Dec.{leb, ltb}
-use lib.ListN.{length, getD}
+use lib.ListN.{length}
 use lib.Ieee.{Float}
-use Rattle.journal.specs.Row.{Cell, Row, rowSize}
+use Rattle.journal.specs.Row.{Cell, Row, rowSize, rowNumber}
 use Rattle.journal.specs.Journal.{readJournal}
-use Rattle.closing.specs.Buffer.{storedFirst}
+use Rattle.journal.specs.Buffer.{storedFirst}
 use Rattle.closing.specs.declared.row.RowRead.{RowRead}
 use Rattle.closing.specs.declared.row.RowRead.the-variants.{Row as Answer, Refused}
 
@@ -45,13 +45,6 @@ pub data Reading : Type 0 where
 -- 15: the lists within the buffers
 unfoldable pub rowFitted : RowBuffers → Row → Reading
 rowFitted b r = cond (leb (rowSize r) (candidateRoom b)) (cond (leb (length (r .distances)) (length (b .distances))) (gives r) (refused 15)) (refused 15)
-
-abbrev pub noRow : Row
-noRow = record { minute = 0; cells = []; before = 0; distances = [] }
-
--- row number n, from 0, of these, the newest first
-abbrev pub rowNumber : List Row → ℕ → Row
-rowNumber rs n = getD rs (length rs - suc n) noRow
 
 abbrev pub readingRead : ℕ → RowBuffers → Option (List Row) → Reading
 readingRead n b none = refused 7

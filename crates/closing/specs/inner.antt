@@ -1,3 +1,2 @@
 -- What the contracts of private functions and the laws of `closing` cite beside the believed definitions.
-pub mod Buffer
 pub mod Walk

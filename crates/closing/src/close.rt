@@ -1,8 +1,8 @@
 // Closing: the best path through the standing rows.
-use crate::buffer::least;
 use crate::walk::Back;
 use crate::walk::path_length;
 use crate::walk::write_path;
+use journal::buffer::least;
 use journal::check::Predecessor;
 use journal::check::Survey;
 use journal::check::read_journal;

@@ -1,7 +1,7 @@
 // Reading a row back.
-use crate::buffer::copy_fields;
-use crate::buffer::copy_floats;
-use crate::buffer::least;
+use journal::buffer::copy_fields;
+use journal::buffer::copy_floats;
+use journal::buffer::least;
 use journal::call::end_before;
 use journal::check::Survey;
 use journal::check::read_journal;
@@ -10,8 +10,8 @@ use journal::record::FIRST_CELL;
 use journal::record::distance_count;
 ghost use mathlib.Core.Path.{_≡_};
 ghost use Rattle.journal.specs.Record.{readRow};
+ghost use Rattle.journal.specs.inner.Buffer.{RecordWhole};
 ghost use Rattle.closing.specs.Row.{RowBuffers, rowBuffersOf, rowFitted, reading, rowAnswer, filled};
-ghost use Rattle.closing.specs.inner.Buffer.{RecordWhole};
 
 // What reading a row answers: its number of candidates and of predecessor candidates and its minute, or a refusal's number.
 pub enum RowRead {

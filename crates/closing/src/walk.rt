@@ -1,5 +1,5 @@
 // The walk back along the parents, over the records by the lengths at their ends.
-use crate::record::parent_of;
+use rows::record::parent_of;
 ghost use mathlib.Core.Path.{_≡_};
 ghost use Prim.Native.Nat.{_+_, _<_, _≤_};
 ghost use lib.ListN.{length};

@@ -7,7 +7,7 @@ use mathlib.Core.List.{List, [], _∷_}
 use mathlib.Core.Option.{none, some}
 use borrow.Author.Tests.{ne-eqb}
 use lib.Dec.{T, eqb, eqb→eq}
-use lib.ListN.{length, List·getD-map}
+use lib.ListN.{length}
 use lib.Ieee.{Float, nan, inf, fin, binary64, le}
 use lib.Ieee.Scale.{finite}
 use lib.Ieee.Bits.{is-true, is-false}
@@ -16,8 +16,7 @@ use Rattle.binary64.specs.Operators.{_⊕_}
 use Rattle.binary64.proofs.Order.{taken, missed}
 use Rattle.binary64.proofs.Sum.{add-comm}
 use Rattle.binary64.proofs.Costs.{score-sum, score-inf, score-mono-left}
-use Rattle.journal.specs.Row.{Fix, Cell, Row, noParent, noCell, candidateOf, distanceOf, cellOf, scoreOf, scores, predecessor}
-use Rattle.journal.specs.inner.Row.{fixOf}
+use Rattle.journal.specs.Row.{Fix, Row, noParent, candidateOf, distanceOf, cellOf, scoreOf, scores, predecessor}
 use Rattle.journal.proofs.Lists.{some-none}
 use Rattle.transition.specs.declared.step.Step.the-variants.{Possible}
 use Rattle.rows.specs.Row.{StepScore, floored, offer}
@@ -71,9 +70,6 @@ follow-none (r ∷ rs) i e = go (scores r) refl (follow-none rs i)
     go : (b : Bool) → scores r ≡ b → (predecessor rs ≡ none → follow rs i ≡ []) → follow (r ∷ rs) i ≡ []
     go true q ih = some-none (sym (latest-new r rs (taken q)) ∙ e)
     go false q ih = follow-old r rs i (missed q) ∙ ih (sym (latest-old r rs (missed q)) ∙ e)
-
-pub candidate-fix : (p : Row) (j : ℕ) → candidateOf (fixOf p) j ≡ cellOf p j .candidate
-candidate-fix p j = List·getD-map (λ (c : Cell). c .candidate) (p .cells) j noCell
 
 -- ---- minus infinity stays
 pub stays : (x u l : Float) → T (le x (inf true)) → T (le u pzero) → T (le l pzero) → x ⊕ u ⊕ l ≡ inf true

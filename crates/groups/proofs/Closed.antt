@@ -6,7 +6,8 @@ use lib.Ieee.{Float}
 use Rattle.lists.proofs.Lists.{map-back}
 use Rattle.decoder.specs.Closing.{Closed, path}
 use Rattle.closing.specs.declared.walk.Back.{Back}
-use Rattle.closing.specs.inner.Walk.{rowsIn, pathFrom}
+use Rattle.journal.specs.inner.Rows.{rowsIn}
+use Rattle.closing.specs.inner.Walk.{pathFrom}
 use Rattle.groups.specs.Groups.{stateAt, groups, groupsClosed}
 use Rattle.groups.specs.inner.Gather.{statesFrom, groupsFrom}
 use Rattle.groups.proofs.Onto.{onto-groups}

@@ -8,14 +8,13 @@ use lib.Dec.{T, eqb}
 use lib.ListN.{length}
 use lib.Ieee.{Float, le}
 use Rattle.binary64.specs.Ranges.{inRange, inClearRange}
-use Rattle.journal.specs.Row.{Cell, Row, noParent, noCell, cellOf, scores, predecessor}
+use Rattle.journal.specs.Row.{Cell, Row, noParent, noCell, noRow, cellOf, scores, predecessor}
 use Rattle.journal.specs.Ranges.{elementLimit, intrinsicOk}
 use Rattle.journal.specs.WellFormed.{Each, Obey}
 use Rattle.journal.proofs.Lists.{each-at, each-intro}
 use Rattle.journal.proofs.Rules.{candidate-rules}
 use Rattle.rows.specs.Row.{bestOf}
 use Rattle.decoder.specs.Closing.{Pairs, follow, closeAt, closing}
-use Rattle.closing.specs.Row.{noRow}
 use Rattle.closing.proofs.Steps.{rules}
 use Rattle.groups.specs.Groups.{stateAt, groupsClosed}
 use Rattle.groups.proofs.Rising.{Rising, rising-sooner, GroupFrom, groups-from}

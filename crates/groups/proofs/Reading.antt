@@ -14,7 +14,8 @@ use Rattle.journal.specs.Record.{firstCell, readRow}
 use Rattle.journal.specs.declared.record.Candidate.{Candidate}
 use Rattle.rows.specs.inner.Scoring.{CandidateStands}
 use Rattle.closing.specs.declared.walk.Back.{Back}
-use Rattle.closing.specs.inner.Walk.{rowsIn, firstRows, Reached, RecordLeft, pathFrom, over}
+use Rattle.journal.specs.inner.Rows.{rowsIn}
+use Rattle.closing.specs.inner.Walk.{firstRows, Reached, RecordLeft, pathFrom, over}
 use Rattle.closing.proofs.Steps.{reached-few, over-reached, over-rows, over-inside, over-candidate, over-quiet, over-pair, over-row}
 use Rattle.closing.proofs.Storing.{path-stops, path-ends}
 use Rattle.groups.specs.declared.group.NetelementGroup.{NetelementGroup}

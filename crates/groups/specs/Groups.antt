@@ -4,10 +4,9 @@ use mathlib.Core.Bool.{cond}
 use mathlib.Core.List.{List, [], _∷_, map}
 use lib.Dec.{eqb}
 use lib.Ieee.{Float, lt}
-use Rattle.journal.specs.Row.{Row, cellOf}
+use Rattle.journal.specs.Row.{Row, cellOf, rowNumber}
 use Rattle.journal.specs.declared.record.Candidate.{Candidate}
 use Rattle.decoder.specs.Closing.{Closed, nothing, path}
-use Rattle.closing.specs.Row.{rowNumber}
 use Rattle.groups.specs.declared.group.NetelementGroup.{NetelementGroup}
 
 -- a state of the path: a row and its minute, and the element and intrinsic of its candidate there

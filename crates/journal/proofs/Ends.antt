@@ -9,7 +9,7 @@ use borrow.Author.Tests.{le-leb, lt-leb}
 use lib.ListN.{length, getD, drop, set, length-append, length-drop}
 use lib.Seq.{drop-cons, getD-at}
 use Rattle.journal.specs.Lists.{flat}
-use Rattle.journal.specs.Row.{Row, rowSize, latestMinute}
+use Rattle.journal.specs.Row.{Row, noRow, rowSize, latestMinute}
 use Rattle.journal.specs.Record.{lengthWord, usedWord, headOf, cellWords, distancesWords, recordLength, recordOf}
 use Rattle.journal.specs.Journal.{words, predecessorPlace, recordOn, journal, used, readJournal}
 use Rattle.journal.specs.WellFormed.{RowFits, Obey, WellFormed as Formed}
@@ -46,9 +46,6 @@ last-at place r w xs ys f =
     ∙ ap lengthWord (sym (length-record place r (f .number)))
 
 -- ---- back over the last rows
-
-noRow : Row
-noRow = record { minute = 0; cells = []; before = 0; distances = [] }
 
 pub words-cons : (r : Row) (rs : List Row) → words (r ∷ rs) ≡ words rs ++ recordOn rs r
 unfolding words

@@ -4,6 +4,7 @@ pub mod Rules
 pub mod Product
 pub mod LengthTable
 pub mod Stores
+pub mod Buffers
 pub mod Gathered
 pub mod Reading
 pub mod WellFormed

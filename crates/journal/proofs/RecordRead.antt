@@ -32,6 +32,10 @@ pub row-minute : (ws : List ℕ) → readRow ws .minute ≡ getD ws 2 0 % 268435
 unfolding readRow
 row-minute ws = refl
 
+pub row-before : (ws : List ℕ) → readRow ws .before ≡ getD ws 0 0 / 32 % 32
+unfolding readRow
+row-before ws = refl
+
 pub row-cell : (ws : List ℕ) (k : ℕ) → k < rowSize (readRow ws) → cellOf (readRow ws) k ≡ readCell (drop (firstCell + 7 * k) ws)
 unfolding readRow
 row-cell ws k h =

@@ -5,5 +5,6 @@ pub mod Ranges
 pub mod Record
 pub mod Journal
 pub mod Call
+pub mod Buffer
 pub mod WellFormed
 pub mod inner

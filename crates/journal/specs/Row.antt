@@ -1,6 +1,6 @@
 -- Document 01, "Fix and row" (the minute: document 02, K4): fixes, and rows as the journal holds them. Lists of fixes and of rows are newest
 -- first, so that a feed is ∷ and a strike is drop.
-use Prim.Native.Nat.{ℕ, _+_, _*_}
+use Prim.Native.Nat.{ℕ, suc, _+_, _-_, _*_}
 use mathlib.Core.Bool.{Bool, true, cond}
 use mathlib.Core.List.{List, [], _∷_, map}
 use mathlib.Core.Option.{Option, none, some}
@@ -44,6 +44,10 @@ noCandidate = record { element = 0; intrinsic = pzero; near = 0; «raw_log» = i
 abbrev pub noCell : Cell
 noCell = record { candidate = noCandidate; parent = noParent; score = inf true }
 
+-- the row past the end of a list of rows
+abbrev pub noRow : Row
+noRow = record { minute = 0; cells = []; before = 0; distances = [] }
+
 abbrev pub candidateCount : Fix → ℕ
 candidateCount f = length (f .candidates)
 
@@ -62,6 +66,10 @@ cellOf r i = getD (r .cells) i noCell
 
 abbrev pub scoreOf : Row → ℕ → Float
 scoreOf r i = cellOf r i .score
+
+-- row number n, from 0, of these, the newest first
+abbrev pub rowNumber : List Row → ℕ → Row
+rowNumber rs n = getD rs (length rs - suc n) noRow
 
 -- ---- the predecessor
 
@@ -124,3 +132,7 @@ handed f = record {
   rawLogs = map (λ (c : Candidate). c .«raw_log») (f .candidates);
   distances = f .distances;
 }
+
+-- the fix that a row records
+abbrev pub fixOf : Row → Fix
+fixOf r = record { minute = r .minute; candidates = map (λ (c : Cell). c .candidate) (r .cells); distances = r .distances }

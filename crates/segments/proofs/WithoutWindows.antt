@@ -11,14 +11,13 @@ use Rattle.network.specs.Graph.{Graph, graph}
 use Rattle.network.specs.Triple.{consistent}
 use Rattle.network.proofs.NoWindows.{graph-open}
 use Rattle.routing.specs.Route.{route, routeStates, distanceBy, distanceAnswer}
-use Rattle.journal.specs.Row.{Fix, Row, cellOf, scores, predecessor}
+use Rattle.journal.specs.Row.{Fix, Row, noRow, cellOf, scores, predecessor, rowNumber}
 use Rattle.transition.specs.Routes.{routesBy}
 use Rattle.transition.specs.Step.{stepOn, transition}
 use Rattle.transition.specs.declared.step.Settings.{Settings}
 use Rattle.rows.specs.Row.{StepScore, StepsAt, offer, broken, scored, row, rows}
 use Rattle.bridges.specs.Bridges.{cheapestOf, betweenSides, knownRoute, elementsBetween}
 use Rattle.decoder.specs.Closing.{Pairs, Closed, nothing, path, follow, closeAt, closing}
-use Rattle.closing.specs.Row.{noRow, rowNumber}
 use Rattle.groups.specs.declared.group.NetelementGroup.{NetelementGroup}
 use Rattle.groups.specs.Groups.{State, stateAt, alone, withState, before, groups, groupsClosed}
 use Rattle.segments.specs.declared.segment.Segment.{Segment}

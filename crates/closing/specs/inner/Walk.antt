@@ -3,27 +3,20 @@ use Prim.Native.Nat.{ℕ, suc, _+_, _-_, _<_, _≤_}
 use mathlib.Core.Path.{_≡_}
 use mathlib.Core.Bool.{cond}
 use mathlib.Core.List.{List, [], _∷_, map, reverseAux}
-use mathlib.Core.Option.{Option, none, some}
+use mathlib.Core.Option.{some}
 use lib.Dec.{ltb}
 use lib.ListN.{length, drop, set}
 use Rattle.journal.specs.Row.{Row, noParent, cellOf, scores, predecessor, sizeOf}
 use Rattle.journal.specs.Journal.{words, predecessorPlace, readJournal}
 use Rattle.journal.specs.inner.Check.{survey}
+use Rattle.journal.specs.inner.Rows.{rowsIn}
 use Rattle.journal.specs.declared.check.Predecessor.the-variants.{At}
 use Rattle.journal.specs.declared.check.Survey.the-variants.{WellFormed}
 use Rattle.decoder.specs.Closing.{Pairs, follow}
 use Rattle.closing.specs.Close.{PairField}
 use Rattle.closing.specs.declared.walk.Back.{Back}
 
--- the rows of a journal that is well formed
-abbrev pub rowsRead : Option (List Row) → List Row
-rowsRead none = []
-rowsRead (some rs) = rs
-
-abbrev pub rowsIn : List ℕ → List Row
-rowsIn s = rowsRead (readJournal s)
-
--- its first n rows
+-- the first n rows of a journal that is well formed
 abbrev pub firstRows : List ℕ → ℕ → List Row
 firstRows s n = drop (length (rowsIn s) - n) (rowsIn s)
 

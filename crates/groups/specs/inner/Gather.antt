@@ -6,7 +6,8 @@ use mathlib.Core.List.{List, [], _∷_, _++_, map}
 use lib.Dec.{eqb}
 use Rattle.journal.specs.Row.{noParent}
 use Rattle.closing.specs.declared.walk.Back.{Back}
-use Rattle.closing.specs.inner.Walk.{rowsIn, pathFrom, Reached}
+use Rattle.journal.specs.inner.Rows.{rowsIn}
+use Rattle.closing.specs.inner.Walk.{pathFrom, Reached}
 use Rattle.groups.specs.declared.group.NetelementGroup.{NetelementGroup}
 use Rattle.groups.specs.declared.gather.Gathering.{Gathering}
 use Rattle.groups.specs.Groups.{State, stateAt, before}

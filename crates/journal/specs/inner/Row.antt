@@ -2,7 +2,7 @@
 use Prim.Native.Nat.{ℕ, _*_, _<_, _≤_}
 use mathlib.Core.Path.{_≡_}
 use mathlib.Core.Bool.{Bool, _&&_}
-use mathlib.Core.List.{List, map}
+use mathlib.Core.List.{List}
 use lib.Dec.{leb}
 use lib.ListN.{length, getD}
 use lib.Ieee.{Float, nan}
@@ -28,9 +28,6 @@ pub record RowWritable (r : Row) : Type 0 where
   pub before : r .before ≤ candidateLimit
   pub number : length (r .distances) ≡ rowSize r * r .before
   pub cell : (k : ℕ) → k < rowSize r → CellWritable (cellOf r k)
-
-abbrev pub fixOf : Row → Fix
-fixOf r = record { minute = r .minute; candidates = map (λ (c : Cell). c .candidate) (r .cells); distances = r .distances }
 
 -- candidates with their parents and scores, a list of each
 unfoldable pub cellsOf : List Candidate → List ℕ → List Float → List Cell

@@ -8,7 +8,8 @@ use lib.ListN.{length, take, drop}
 use Rattle.binary64.specs.Values.{pzero}
 use Rattle.network.specs.Network.{Network, checked}
 use Rattle.network.specs.declared.check.Checked.the-variants.{Accepted}
-use Rattle.closing.specs.inner.Walk.{rowsIn, Reached}
+use Rattle.journal.specs.inner.Rows.{rowsIn}
+use Rattle.closing.specs.inner.Walk.{Reached}
 use Rattle.bridges.specs.inner.Found.{bridgesOf}
 use Rattle.segments.specs.declared.segment.Segment.{Segment}
 use Rattle.segments.specs.declared.build.Built.{Built}

@@ -4,12 +4,13 @@ use mathlib.Core.Path.{_≡_}
 use mathlib.Core.List.{List, [], _∷_}
 use mathlib.Core.Option.{Option, none, some}
 use lib.Dec.{ltb}
-use lib.ListN.{length, drop}
+use lib.ListN.{length}
 use Rattle.journal.specs.Lists.{each}
 use Rattle.journal.specs.Row.{Row, rowSize, cellOf}
 use Rattle.journal.specs.Record.{firstCell, recordLength, readRow}
 use Rattle.journal.specs.Journal.{words, readJournal}
 use Rattle.journal.specs.inner.Check.{latestOf}
+use Rattle.journal.specs.inner.Rows.{rowsBefore}
 use Rattle.journal.specs.Call.{firstFailed}
 use Rattle.journal.specs.declared.check.Predecessor.{Predecessor}
 use Rattle.journal.specs.declared.check.Predecessor.the-variants.{Nothing, At}
@@ -18,10 +19,6 @@ use Rattle.steps.specs.declared.find.Found.{Found}
 use Rattle.steps.specs.declared.find.Found.the-variants.{Refused, Alone, Linked}
 
 -- ---- their places
-
--- those before row number n
-abbrev pub rowsBefore : List Row → ℕ → List Row
-rowsBefore rs n = drop (length rs - n) rs
 
 -- a row whose record starts at a place, by its predecessor
 abbrev pub linked : ℕ → Predecessor → Found

@@ -1,14 +1,14 @@
--- `closing::buffer::copy_fields` meets its contract. Assumes nothing.
+-- `journal::buffer::copy_fields` meets its contract. Assumes nothing.
 use borrow.Author.Needs.{needs}
 use mathlib.Core.Path.{_≡_, refl}
 use Prim.Native.Nat.{_+_, _*_, _-_, _/_, _%_, _≤_}
 use native.Mathlib.Omega.{arith}
 use lib.ListN.{length, getD, length-set}
 use Rattle.journal.specs.Record.{firstCell}
-use Rattle.closing.specs.inner.Buffer.{entriesStored}
+use Rattle.journal.specs.inner.Buffer.{entriesStored}
 use Rattle.lists.proofs.Loops.{upTo-none, upTo-turn, upTo-done}
-use Rattle.closing.proofs.buffer.copy_fields.Statement.{statement}
-use Rattle.closing.proofs.buffer.copy_fields.Tie as tie
+use Rattle.journal.proofs.buffer.copy_fields.Statement.{statement}
+use Rattle.journal.proofs.buffer.copy_fields.Tie as tie
 
 abbrev Inv-loop : tie.InvT-loop
 Inv-loop words n unit limit buffer₀ k₀ buffer k = (k ≤ n) × (length buffer ≡ length buffer₀) × (buffer ≡ entriesStored k (λ j. getD words (firstCell + 7 * j) 0 / unit % limit) buffer₀)

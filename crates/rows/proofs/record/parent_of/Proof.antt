@@ -1,9 +1,9 @@
--- `closing::record::parent_of` meets its contract. Assumes nothing.
+-- `rows::record::parent_of` meets its contract. Assumes nothing.
 use mathlib.Core.Path.{sym}
 use borrow.Author.Needs.{needs}
-use Rattle.closing.proofs.Records.{row-parent}
-use Rattle.closing.proofs.record.parent_of.Statement.{statement}
-use Rattle.closing.proofs.record.parent_of.Tie as tie
+use Rattle.rows.proofs.Records.{row-parent}
+use Rattle.rows.proofs.record.parent_of.Statement.{statement}
+use Rattle.rows.proofs.record.parent_of.Tie as tie
 
 mul-result : tie.Need-mul-result
 mul-result c = search needs

@@ -1,16 +1,16 @@
--- `closing::buffer::copy_floats` meets its contract. Assumes nothing.
+-- `journal::buffer::copy_floats` meets its contract. Assumes nothing.
 use borrow.Author.Needs.{needs}
 use mathlib.Core.Path.{_≡_, refl}
 use Prim.Native.Nat.{_+_, _*_, _-_, _≤_}
 use native.Mathlib.Omega.{arith}
 use native.Mathlib.Nat.{mul-zero}
 use lib.ListN.{length, length-set}
 use Rattle.journal.specs.Record.{floatAt}
-use Rattle.closing.specs.inner.Buffer.{entriesStored}
+use Rattle.journal.specs.inner.Buffer.{entriesStored}
 use Rattle.lists.proofs.Loops.{upTo-none, upTo-turn, upTo-done}
-use Rattle.closing.proofs.Buffers.{next-place, last-place}
-use Rattle.closing.proofs.buffer.copy_floats.Statement.{statement}
-use Rattle.closing.proofs.buffer.copy_floats.Tie as tie
+use Rattle.journal.proofs.Buffers.{next-place, last-place}
+use Rattle.journal.proofs.buffer.copy_floats.Statement.{statement}
+use Rattle.journal.proofs.buffer.copy_floats.Tie as tie
 
 abbrev Inv-loop : tie.InvT-loop
 Inv-loop words place apart n buffer₀ at₀ k₀ buffer at k =

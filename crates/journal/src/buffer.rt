@@ -1,11 +1,11 @@
 // Columns of a record, stored in the first entries of lent buffers.
-use journal::float::float_at;
-use journal::record::FIRST_CELL;
+use crate::float::float_at;
+use crate::record::FIRST_CELL;
 ghost use mathlib.Core.Path.{_≡_};
 ghost use Prim.Native.Nat.{_+_, _*_, _/_, _%_, min};
 ghost use lib.ListN.{getD};
 ghost use Rattle.journal.specs.Record.{firstCell, floatAt};
-ghost use Rattle.closing.specs.inner.Buffer.{FieldsStand, FloatsStand, entriesStored};
+ghost use Rattle.journal.specs.inner.Buffer.{FieldsStand, FloatsStand, entriesStored};
 
 pub fn least(a: usize, b: usize) -> usize
     ensures { λ r. ⌜ r ≡ min a b ⌝ }

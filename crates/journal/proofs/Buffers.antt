@@ -8,8 +8,8 @@ use mathlib.Core.List.{List, [], _∷_, _++_, append-assoc}
 use lib.ListN.{length, getD, take, drop, set}
 use lib.Seq.{take-length, take-suc, drop-cons, set-at, length-take-le}
 use Rattle.lists.specs.Loops.{upTo}
-use Rattle.closing.specs.inner.Buffer.{entriesStored}
-use Rattle.closing.specs.Buffer.{storedFirst}
+use Rattle.journal.specs.inner.Buffer.{entriesStored}
+use Rattle.journal.specs.Buffer.{storedFirst}
 
 module _ {A : Type 0} (d : A) (xs buffer : List A) (g : ℕ → A) where
   entries-are : (n : ℕ) → n ≤ length xs → n ≤ length buffer → ((k : ℕ) → k < n → g k ≡ getD xs k d) → entriesStored n g buffer ≡ take n xs ++ drop n buffer
