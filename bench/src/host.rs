@@ -122,6 +122,13 @@ pub fn feed(s: &Slices, settings: Settings, journal: &mut [u32], fix: &FixSlices
     accepted(status, "feed");
 }
 
+/// A journal that is clean.
+pub fn replay(s: &Slices, settings: Settings, journal: &[u32]) {
+    let mut row = 0;
+    let status = on_network!(box_replay, s, settings.beta, settings.scale, journal.as_ptr(), journal.len(), &mut row);
+    accepted(status, "replay");
+}
+
 /// The score, and how many pairs the path has.
 pub fn close(journal: &[u32], rows: &mut [u32], candidates: &mut [u32]) -> (f64, usize) {
     let (mut score, mut count) = (0.0, 0);

@@ -40,6 +40,7 @@ calls_on_network! {
         beta: f64, scale: f64, journal: *mut u32, words: usize, minute: u32, elements: Words, n12: usize, intrinsics: Floats, n13: usize,
         near: Words, n14: usize, raw_logs: Floats, n15: usize, distances: Floats, n16: usize
     );
+    box_replay(beta: f64, scale: f64, journal: Words, words: usize, row: *mut u32);
     box_build_path(journal: Words, words: usize, segments: *mut Segment, n12: usize, count: *mut usize);
 }
 

@@ -121,6 +121,30 @@ fn drive_with_windows(case: &str, network: &Network, fixes: &[Fix], runs: usize)
     print_row(case, "", with, without);
 }
 
+/// A drive and then one of twice the rows, replayed. Each fix has a minute of its own, so that the network is compiled for each row, as it is in feeding.
+fn replays(network: &Network, fixes: &[Fix], runs: usize) {
+    let slices = Slices::of(network);
+    let given: Vec<FixSlices> = fixes.iter().map(FixSlices::of).collect();
+    let half = fixes.len() / 2;
+    let mut journals = [half, fixes.len()].map(|rows| vec![0; 80 * rows + 1]);
+    drive_once(&slices, &given, &mut journals[1]);
+    let (mut fed, mut replayed, mut twice) = (Vec::new(), Vec::new(), Vec::new());
+    for _ in 0..runs {
+        fed.push(drive_once(&slices, &given[..half], &mut journals[0]));
+        replayed.push(replay_once(&slices, &journals[0]));
+        twice.push(replay_once(&slices, &journals[1]));
+    }
+    let a_row = Times::of(replayed.iter().map(|micros| micros / half as f64).collect());
+    print_row("replay, drive of 1,000 fixes, a row, beside feeding it", "1.000", a_row, Times::of(fed));
+    print_row("replay, 2,000 rows beside 1,000", "2.200", Times::of(twice), Times::of(replayed));
+}
+
+fn replay_once(slices: &Slices, journal: &[u32]) -> f64 {
+    let began = Instant::now();
+    host::replay(slices, SETTINGS, journal);
+    began.elapsed().as_secs_f64() * 1e6
+}
+
 /// The cost of a route: Box checks and indexes the network at each call, the original has built its graph before.
 fn route(case: &str, network: &Network, start: Side, goal: Side) {
     let (slices, original) = (Slices::of(network), original_of(network));
@@ -239,6 +263,7 @@ fn main() {
     let fixes = yard::drive(&network, 1000, 4);
     drive("drive of 1,000 fixes, 4 neighbouring, a fix", "1.000", &network, &fixes, 5);
     drive_with_windows("drive of 1,000 fixes, 4 neighbouring, four windows a relation, a fix, beside that without windows", &network, &fixes, 5);
+    replays(&network, &yard::drive(&network, 2000, 4), 5);
     let start = Side { element: 0, side: 0 };
     route("route, 1024 elements, near", &network, start, Side { element: 34, side: 1 });
     route("route, 1024 elements, far", &network, start, Side { element: 1023, side: 1 });

@@ -1,5 +1,5 @@
 // Reading standard input: a stretch of it at a time, the text, so that it may be of any length.
-// A line, with the comments before and in it, may take up to half of the text; a word past that counts as missing.
+// A line, with the comments before and in it, may take up to half of the text, and so may each word of a `load`; a word past that counts as missing.
 use libc::STDIN_FILENO;
 use text::window::keep_rest;
 

@@ -34,6 +34,12 @@ pub fn no_line() -> Line {
     }
 }
 
+pub fn with_host(line: Line, host: Host) -> Line {
+    let mut r = line;
+    r.host = host;
+    r
+}
+
 // The host with its cursor at another place.
 fn moved(h: Host, at: usize) -> Host {
     let mut c = h.cursor;
@@ -68,14 +74,24 @@ fn first_word(text: &[u8], input: Input, h: Host) -> Line {
     }
 }
 
+// The same line, with more of the input read behind what is left of the text where that is less than half.
+pub fn with_more(line: Line, text: &mut [u8]) -> Line {
+    let h = line.host;
+    let c = h.cursor;
+    let input = refill(text, line.input, c.at);
+    let host = moved(h, input.at);
+    let mut r = line;
+    r.host = host;
+    r.input = input;
+    r
+}
+
 // The next line, from where the last one ended, with room for the whole of it unless the input ends before. There is none behind a word that could
 // not be read.
 pub fn next_line(last: Line, text: &mut [u8]) -> Line {
-    let h = last.host;
-    let c = h.cursor;
-    let input = refill(text, last.input, c.at);
-    let host = moved(h, input.at);
-    first_word(first_bytes(text, input.end), input, host)
+    let line = with_more(last, text);
+    let input = line.input;
+    first_word(first_bytes(text, input.end), input, line.host)
 }
 
 // The whole words that were read of the text so far.

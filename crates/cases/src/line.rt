@@ -15,12 +15,15 @@ use answers::host::Cuts;
 use answers::host::Host;
 use answers::host::with_out;
 use answers::line::Line;
+use answers::line::with_host;
 use answers::line::words_of;
 use answers::listing::answer_steps;
+use answers::load::answer_load;
 use answers::parts::lend_numbers;
 use answers::path::answer_close;
 use answers::print::Output;
 use answers::print::print_bytes;
+use answers::replay::answer_replay;
 use answers::routes::answer_route;
 use answers::routes::answer_routes;
 use answers::routes::answer_triple;
@@ -63,6 +66,7 @@ fn ask(
         Keyword::Close => answer_close(h, journal, cuts, out),
         Keyword::Row => answer_row(text, h, journal, cuts, out),
         Keyword::Steps => answer_steps(text, h, floats, numbers, journal, cuts, out),
+        Keyword::Replay => answer_replay(h, floats, numbers, journal, cuts, out),
         Keyword::Route => answer_route(text, h, floats, numbers, cuts, out),
         Keyword::Routes => answer_routes(h, floats, numbers, cuts, out),
         Keyword::Triple => answer_triple(text, h, floats, numbers, cuts, out),
@@ -71,7 +75,8 @@ fn ask(
     }
 }
 
-pub fn answer(
+// A line that is in the text as a whole.
+fn answer_whole(
     line: Line,
     text: &[u8],
     floats: &mut NetworkFloats,
@@ -110,5 +115,37 @@ pub fn answer(
             cuts,
             out,
         ),
+    }
+}
+
+// A line, and what is held behind it. A `load` reads more of the input as it goes.
+pub fn answer(
+    line: Line,
+    text: &mut [u8],
+    floats: &mut NetworkFloats,
+    numbers: &mut NetworkNumbers,
+    journal: &mut [u32],
+    cuts: &mut Cuts,
+    held_numbers: &mut HeldNumbers,
+    held_intrinsics: &mut HeldIntrinsics,
+    out: &mut Output,
+) -> Line {
+    let keyword = line.keyword;
+    match keyword {
+        Keyword::Load => answer_load(line, text, journal),
+        _ => {
+            let host = answer_whole(
+                line,
+                text,
+                floats,
+                numbers,
+                journal,
+                cuts,
+                held_numbers,
+                held_intrinsics,
+                out,
+            );
+            with_host(line, host)
+        }
     }
 }

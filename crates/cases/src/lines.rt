@@ -39,7 +39,7 @@ pub fn run(
         if line.over {
             break;
         }
-        let host = answer(
+        line = answer(
             line,
             text,
             floats,
@@ -50,7 +50,6 @@ pub fn run(
             held_intrinsics,
             out,
         );
-        line.host = host;
     }
     let h = line.host;
     let end = print_error(out, h.out, h.cursor);

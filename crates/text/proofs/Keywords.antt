@@ -56,7 +56,7 @@ found-at other (e ∷ table) w = go (same w (e .0)) (found-at other table w)
     go false h = h
 
 -- the names of each table stand in one text
-keyword-names : allWords (bytes "network settings journal feed open strike poke short words close row steps route routes triple segments collapse kept windows minute") ≡ map (λ e. e .0) keywords
+keyword-names : allWords (bytes "network settings journal feed open strike poke short words close row steps route routes triple segments collapse kept windows minute load replay") ≡ map (λ e. e .0) keywords
 unfolding allWords wordsFrom nextWord gap wordLength breaks commented
 keyword-names = refl
 
@@ -79,12 +79,12 @@ at-place : {A : Type 0} (other : A) (table : List (List ℕ × A)) (names : List
 at-place other table names w k j n e h =
     ap (λ i. getD (map (λ e. e .1) table) i other) (sym h ∙ e ∙ ap (λ ns. placeIn ns w) n) ∙ sym (found-at other table w)
 
-pub keyword-at : (w : List ℕ) (k j : ℕ) → k ≡ placeIn (allWords (bytes "network settings journal feed open strike poke short words close row steps route routes triple segments collapse kept windows minute")) w → k ≡ j → getD (map (λ e. e .1) keywords) j Keyword.Unknown ≡ keywordOf w
+pub keyword-at : (w : List ℕ) (k j : ℕ) → k ≡ placeIn (allWords (bytes "network settings journal feed open strike poke short words close row steps route routes triple segments collapse kept windows minute load replay")) w → k ≡ j → getD (map (λ e. e .1) keywords) j Keyword.Unknown ≡ keywordOf w
 unfolding keywordOf
 keyword-at w k j e h = at-place Keyword.Unknown keywords _ w k j keyword-names e h
 
-pub keyword-other : (w : List ℕ) (k : ℕ) → k ≡ placeIn (allWords (bytes "network settings journal feed open strike poke short words close row steps route routes triple segments collapse kept windows minute")) w → NoneBelow k 20 → Keyword.Unknown ≡ keywordOf w
-keyword-other w k e h = sym (List·getD-eq-default (map (λ e. e .1) keywords) Keyword.Unknown (above k 20 h)) ∙ keyword-at w k k e refl
+pub keyword-other : (w : List ℕ) (k : ℕ) → k ≡ placeIn (allWords (bytes "network settings journal feed open strike poke short words close row steps route routes triple segments collapse kept windows minute load replay")) w → NoneBelow k 22 → Keyword.Unknown ≡ keywordOf w
+keyword-other w k e h = sym (List·getD-eq-default (map (λ e. e .1) keywords) Keyword.Unknown (above k 22 h)) ∙ keyword-at w k k e refl
 
 pub slice-at : (w : List ℕ) (k j : ℕ) → k ≡ placeIn (allWords (bytes "lengths headings flags from to from_side to_side forward backward window_counts window_firsts window_lasts elements intrinsics near raw_logs distances answer decisions")) w → k ≡ j → getD (map (λ e. e .1) slices) j Slice.Unknown ≡ sliceOf w
 unfolding sliceOf

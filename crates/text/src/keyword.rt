@@ -26,6 +26,8 @@ pub enum Keyword {
     Kept,
     Windows,
     Minute,
+    Load,
+    Replay,
     Unknown,
 }
 
@@ -79,7 +81,7 @@ pub fn read_keyword(word: &[u8]) -> Keyword
     ensures { λ r. ⌜ r ≡ keywordOf (now (word .entry)) ⌝ }
 {
     match place_in(
-        b"network settings journal feed open strike poke short words close row steps route routes triple segments collapse kept windows minute",
+        b"network settings journal feed open strike poke short words close row steps route routes triple segments collapse kept windows minute load replay",
         word,
     ) {
         0 => Keyword::Network,
@@ -102,6 +104,8 @@ pub fn read_keyword(word: &[u8]) -> Keyword
         17 => Keyword::Kept,
         18 => Keyword::Windows,
         19 => Keyword::Minute,
+        20 => Keyword::Load,
+        21 => Keyword::Replay,
         _ => Keyword::Unknown,
     }
 }

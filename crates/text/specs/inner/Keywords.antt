@@ -19,7 +19,8 @@ keywords =
     ∷ (bytes "close", Keyword.Close) ∷ (bytes "row", Keyword.Row) ∷ (bytes "steps", Keyword.Steps)
     ∷ (bytes "route", Keyword.Route) ∷ (bytes "routes", Keyword.Routes) ∷ (bytes "triple", Keyword.Triple)
     ∷ (bytes "segments", Keyword.Segments) ∷ (bytes "collapse", Keyword.Collapse) ∷ (bytes "kept", Keyword.Kept)
-    ∷ (bytes "windows", Keyword.Windows) ∷ (bytes "minute", Keyword.Minute) ∷ []
+    ∷ (bytes "windows", Keyword.Windows) ∷ (bytes "minute", Keyword.Minute) ∷ (bytes "load", Keyword.Load)
+    ∷ (bytes "replay", Keyword.Replay) ∷ []
 
 unfoldable pub keywordOf : List ℕ → Keyword
 keywordOf w = entryFor Keyword.Unknown keywords w

@@ -71,7 +71,13 @@ returns-20 : tie.Need-returns-20
 returns-20 c = keyword-at _ _ 19 (c .before .place-in .ensures) (c .match .keys20)
 
 returns-21 : tie.Need-returns-21
-returns-21 c = keyword-other _ _ (c .before .place-in .ensures) (c .match .rest)
+returns-21 c = keyword-at _ _ 20 (c .before .place-in .ensures) (c .match .keys21)
+
+returns-22 : tie.Need-returns-22
+returns-22 c = keyword-at _ _ 21 (c .before .place-in .ensures) (c .match .keys22)
+
+returns-23 : tie.Need-returns-23
+returns-23 c = keyword-other _ _ (c .before .place-in .ensures) (c .match .rest)
 
 pub read-keyword-spec : {M : Type 1} → statement M
 read-keyword-spec =
@@ -99,4 +105,6 @@ read-keyword-spec =
     returns-18
     returns-19
     returns-20
-    returns-21)
+    returns-21
+    returns-22
+    returns-23)
