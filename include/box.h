@@ -5,8 +5,9 @@
 
    Answers. Each call answers a number of `enum box_status`. Checks run in number order over what the call takes, but
    for 16, which comes right after 5, and 17, right after 10; a call's comment has its refusals in that order. The first
-   that fails is the answer. Unless that is BOX_DONE, no memory is changed. A call that is done changes what its comment
-   names, and entries of a buffer past those it answers keep what they held.
+   that fails is the answer. Unless that is BOX_DONE, no memory is changed, but for the row's number that box_replay
+   stores with BOX_DIFFERS. A call that is done changes what its comment names, and entries of a buffer past those it
+   answers keep what they held.
 
    Slices. A slice is a pointer and the number of entries behind it; where that is 0 the pointer may be NULL. A pointer
    to a single value may not. Where a list is answered in several slices, it must fit into the shortest. What a call
@@ -59,6 +60,7 @@ enum box_status {
     BOX_REFUSED_BUFFER = 15,          /* the list is longer than a buffer; too few words for decisions */
     BOX_REFUSED_WINDOW = 16,          /* a window's last minute is not after its first; of skipped relations too */
     BOX_REFUSED_MINUTE = 17,          /* the fix's minute is below that of the last row that stands, or out of range */
+    BOX_DIFFERS = 254,                /* a row is not as feeding would write it; never a refusal's number */
     BOX_NONE = 255                    /* there is no route, no path, or no predecessor; never a refusal's number */
 };
 
@@ -239,6 +241,13 @@ uint32_t box_list_steps(BOX_NETWORK_PARAMETERS, double beta, double scale, const
     size_t journal_words, uint32_t row, uint32_t *predecessor_rows, size_t predecessor_row_room,
     uint32_t *predecessor_candidates, size_t predecessor_candidate_room, uint32_t *rows, size_t row_room,
     uint32_t *candidates, size_t candidate_room, double *steps, size_t step_room, size_t *count);
+
+/* Whether feeding with this network and these settings can have written a journal, say one from another cab. BOX_DONE
+   where the words of each row are those that feeding the fix it records would write: exactly then some accepted fixes
+   and strikes from opening leave the used words. BOX_DIFFERS where they are not: *row, the first such row. The words
+   past the used ones are not looked at. Refuses with 1 to 5, 16, 6, 7, 9. */
+uint32_t box_replay(BOX_NETWORK_PARAMETERS, double beta, double scale, const uint32_t *journal, size_t journal_words,
+    uint32_t *row);
 
 /* ---- Segments. */
 

@@ -2,7 +2,8 @@
    refusals, each number from a smallest call, which changes nothing, and the order of the checks; limits, at them and past
    them; empty, slices without entries; words, the journal of document 01's one fix, the predecessors that rows name, and
    every length of a record; rows, the predecessor of the next fix beside the rows read back, and rows as structures;
-   windows, which relations are open at a minute, by every call that asks, and the minutes of rows. */
+   windows, which relations are open at a minute, by every call that asks, and the minutes of rows; replay, journals that
+   were fed, and every one with a bit changed, beside each row read back and fed again. */
 #include "box.h"
 
 #include <math.h>
@@ -36,7 +37,7 @@ enum { ROOM = 8,
     WORDS = 1 + BOX_RECORD_WORDS(BOX_MAX_CANDIDATES, 0) + BOX_RECORD_WORDS(BOX_MAX_CANDIDATES, BOX_MAX_CANDIDATES) };
 
 static struct lent {
-    uint32_t journal[WORDS], numbers[5][BOX_MAX_STEPS], decisions[6 * ROOM], consistent, predecessor, minute;
+    uint32_t journal[WORDS], numbers[5][BOX_MAX_STEPS], decisions[6 * ROOM], consistent, predecessor, minute, differing;
     double floats[4][BOX_MAX_STEPS], value;
     struct box_segment segments[ROOM];
     struct box_row row;
@@ -109,6 +110,12 @@ static uint32_t list_steps(uint32_t row, size_t room) {
         lent.numbers[1], room, lent.numbers[2], room, lent.numbers[3], room, lent.floats[0], room, &lent.count);
 }
 
+static uint32_t replay_words(size_t words) {
+    return box_replay(BOX_NETWORK(network), beta, scale, lent.journal, words, &lent.differing);
+}
+
+static uint32_t replay(void) { return replay_words(WORDS); }
+
 static uint32_t build_into(size_t room) {
     return box_build_path(BOX_NETWORK(network), lent.journal, WORDS, lent.segments, room, &lent.count);
 }
@@ -154,6 +161,7 @@ static uint32_t triple(void) { return triple_of(0, 1, 2); }
         REFUSED(spoilt, triple(), number); \
         REFUSED(spoilt, feed(1, 0), number); \
         REFUSED(spoilt, list_steps(0, 8), number); \
+        REFUSED(spoilt, replay(), number); \
         REFUSED(spoilt, build_into(ROOM), number); \
     } while (0)
 
@@ -193,12 +201,14 @@ struct asked {
     uint32_t row;
 };
 
-/* What the calls answer while some faults are left, with no room for lists; nothing is changed. */
+/* What the calls answer while some faults are left, with no room for lists; nothing is changed. Replaying looks at what listing
+   does, but for the row and the room for a list. */
 static void answers(const struct asked *asked, uint32_t fed, uint32_t listed, uint32_t built, uint32_t routed) {
     struct lent before;
     memcpy(&before, &lent, sizeof lent);
     expect("feed in order", feed_into(asked->words, asked->candidates, asked->pairs), fed);
     expect("steps in order", list_steps(asked->row, 0), listed);
+    expect("replay in order", replay(), listed == 13 || listed == 15 ? BOX_DONE : listed);
     expect("build in order", build_into(0), built);
     expect("route in order", route_into(1, 0), routed);
     expect("a refused call changes memory", memcmp(&before, &lent, sizeof lent) != 0, 0);
@@ -238,6 +248,7 @@ static void order_of_checks(void) {
         REFUSED(spoilt, read_row(0, 8), BOX_REFUSED_JOURNAL); \
         REFUSED(spoilt, row(0), BOX_REFUSED_JOURNAL); \
         REFUSED(spoilt, list_steps(0, 8), BOX_REFUSED_JOURNAL); \
+        REFUSED(spoilt, replay(), BOX_REFUSED_JOURNAL); \
         REFUSED(spoilt, build_into(ROOM), BOX_REFUSED_JOURNAL); \
     } while (0)
 
@@ -282,10 +293,12 @@ static void refusals(void) {
     window_lists();
     REFUSED(scale = 0, feed(1, 0), BOX_REFUSED_SETTING);
     REFUSED(beta = NAN, list_steps(0, 8), BOX_REFUSED_SETTING);
+    REFUSED(scale = NAN, replay(), BOX_REFUSED_SETTING);
     journals();
     REFUSED(AS_IT_IS, feed(BOX_MAX_CANDIDATES + 1, 0), BOX_REFUSED_CANDIDATE_COUNT);
     REFUSED(elements[0] = 3, feed(1, 0), BOX_REFUSED_CANDIDATE);
     REFUSED((feed(1, 0), network.elements = 0), list_steps(0, 8), BOX_REFUSED_CANDIDATE);
+    REFUSED((feed(1, 0), network.elements = 0), replay(), BOX_REFUSED_CANDIDATE);
     REFUSED((feed(1, 0), network.elements = 0), build_into(ROOM), BOX_REFUSED_CANDIDATE);
     REFUSED(AS_IT_IS, feed(1, 1), BOX_REFUSED_DISTANCES);
     REFUSED(minute = BOX_MAX_MINUTE + 1, feed(1, 0), BOX_REFUSED_MINUTE);
@@ -350,6 +363,7 @@ static void row_limit(void) {
     expect("one row too many, and no room", feed_empty(journal, words - 5, 5), BOX_REFUSED_ROW_LIMIT);
     expect("one row struck", box_strike(journal, words, 1), BOX_DONE);
     expect("the last row", feed_empty(journal, words, 5), BOX_DONE);
+    expect("all replayed", box_replay(BOX_NETWORK(network), beta, scale, journal, words, &lent.differing), BOX_DONE);
 }
 
 /* Four windows of every relation of the most, a fifth of the last, and one that does not end after its first minute. */
@@ -430,6 +444,8 @@ static void empty(void) {
     expect("close", box_close(NULL, 0, NULL, 0, NULL, 0, &value, &count), BOX_REFUSED_JOURNAL);
     expect("predecessor", box_predecessor(&word, 1, &row_number, &count), BOX_NONE);
     expect("predecessor", box_predecessor(NULL, 0, &row_number, &count), BOX_REFUSED_JOURNAL);
+    expect("replay", box_replay(NOTHING, 1, 1, &word, 1, &row_number), BOX_DONE);
+    expect("replay", box_replay(NOTHING, 1, 1, NULL, 0, &row_number), BOX_REFUSED_JOURNAL);
     expect("values kept", value == 9 && count == 9 && row_number == 9, 1);
     expect("build", box_build_path(NOTHING, &word, 1, NULL, 0, &count), BOX_DONE);
     expect("no segments", count == 0, 1);
@@ -443,6 +459,7 @@ static void empty(void) {
     expect("steps", box_list_steps(BOX_NETWORK(network), 1, 1, lent.journal, ONE_ROW, 0, NULL, 0, NULL, 0, NULL, 0, NULL, 0,
         NULL, 0, &count), BOX_DONE);
     expect("no steps", count == 0 && second == 0, 1);
+    expect("replay", box_replay(NOTHING, 1, 1, lent.journal, ONE_ROW, &row_number), BOX_DONE);
 }
 
 /* ---- words */
@@ -694,14 +711,147 @@ static void windows(void) {
     row_minutes();
 }
 
+/* ---- replay */
+
+/* No row has this number. */
+enum { CLEAN = BOX_MAX_ROWS };
+
+/* What replaying tells, and that it changes nothing but the number of a row that differs. */
+static void replays(const char *what, uint32_t expected, uint32_t differing) {
+    static struct lent before;
+    lent.differing = CLEAN, before = lent;
+    expect(what, replay(), expected);
+    expect("the row that differs", lent.differing, differing);
+    before.differing = differing;
+    expect("replaying changes memory", memcmp(&before, &lent, sizeof lent) != 0, 0);
+}
+
+static void is_clean(const char *what) { replays(what, BOX_DONE, CLEAN); }
+
+static void differs(const char *what, uint32_t row) { replays(what, BOX_DIFFERS, row); }
+
+/* It tells what the other calls do: each row is read back, fed again into another journal, and compared. */
+static void fed_again(const char *what) {
+    static uint32_t journal[WORDS];
+    const struct box_row *fed = &lent.row;
+    uint32_t used = lent.journal[0] & 0xFFFFFFF, at = 1, refusal = list_steps(BOX_MAX_ROWS, 0);
+    if (refusal != BOX_REFUSED_ROW) {
+        replays(what, refusal, CLEAN);
+        return;
+    }
+    box_open(journal, WORDS);
+    for (uint32_t number = 0; at < used; number++) {
+        size_t count = (expect("a row", row(number), BOX_DONE), fed->count);
+        expect(what, box_feed(BOX_NETWORK(network), beta, scale, journal, WORDS, fed->minute, fed->elements, count, fed->intrinsics,
+            count, fed->near_flags, count, fed->raw_logs, count, fed->distances, count * fed->predecessor_count), BOX_DONE);
+        uint32_t end = journal[0] & 0xFFFFFFF;
+        if (memcmp(journal + at, lent.journal + at, (end - at) * sizeof *journal) != 0) {
+            differs(what, number);
+            return;
+        }
+        at = end;
+    }
+    is_clean(what);
+}
+
+/* A row without a finite score, two in one minute, an empty one, one after it, one to which no step is possible, one in a window,
+   which leaves its second candidate without a step, and one after that. Their heads are at these words. */
+enum { ROW_0 = 1, ROW_1 = ROW_0 + BOX_RECORD_WORDS(1, 0), ROW_2 = ROW_1 + BOX_RECORD_WORDS(2, 0),
+    ROW_3 = ROW_2 + BOX_RECORD_WORDS(2, 2), ROW_4 = ROW_3 + BOX_RECORD_WORDS(0, 0), ROW_5 = ROW_4 + BOX_RECORD_WORDS(2, 2),
+    ROW_6 = ROW_5 + BOX_RECORD_WORDS(1, 2), ROW_7 = ROW_6 + BOX_RECORD_WORDS(2, 1), END = ROW_7 + BOX_RECORD_WORDS(2, 2) };
+
+/* One more row, of candidates on these elements. */
+static void feed_row(uint32_t at, size_t candidates, uint32_t first, uint32_t second, size_t pairs) {
+    elements[0] = first, elements[1] = second, minute = at;
+    expect("a row", feed(candidates, pairs), BOX_DONE);
+}
+
+static void drive(void) {
+    start(), shut(1, 10, 20), intrinsics[1] = 0.75, raw_logs[0] = -INFINITY;
+    feed_row(5, 1, 0, 0, 0), raw_logs[0] = -0.7;
+    for (uint32_t i = 0; i < 4; i++) distances[i] = 40.1 + i;
+    feed_row(5, 2, 0, 1, 0), feed_row(5, 2, 0, 1, 4), feed_row(7, 0, 0, 0, 0), feed_row(9, 2, 1, 2, 4);
+    distances[0] = distances[1] = BOX_MAX_DISTANCE;
+    feed_row(11, 1, 0, 0, 2);
+    distances[0] = 30, distances[1] = 60;
+    feed_row(12, 2, 1, 2, 2), feed_row(20, 2, 1, 2, 4);
+    expect("used words", lent.journal[0], 0x50000000 + END);
+}
+
+/* The words of a row's candidate: its own, then intrinsic, raw log and score, high half first. */
+static uint32_t *cell(uint32_t head, uint32_t candidate) { return &lent.journal[head + 3 + 7 * candidate]; }
+
+/* What was opened, fed and struck is clean, whatever the words past it are. */
+static void fed_and_struck(void) {
+    start(), is_clean("an empty journal"), fed_again("an empty journal");
+    drive(), is_clean("a drive"), fed_again("a drive");
+    memset(lent.journal + END, 0xA5, sizeof lent.journal - END * sizeof lent.journal[0]);
+    is_clean("a drive before other words");
+    expect("its own words alone", replay_words(END), BOX_DONE);
+    expect("a word too few", replay_words(END - 1), BOX_REFUSED_JOURNAL);
+    for (uint32_t left = 8; left-- > 0;) {
+        expect("a row struck", strike(1), BOX_DONE);
+        is_clean("what is left of a drive");
+    }
+    drive(), strike(4), feed_row(8, 1, 2, 0, 2);
+    is_clean("a row instead of four"), fed_again("a row instead of four");
+}
+
+/* Scores and parents that feeding would not write: the first row is told, unless the journal is refused. */
+static void changed_rows(void) {
+    drive(), cell(ROW_2, 1)[6] ^= 1, differs("the lowest bit of a score", 2);
+    drive(), cell(ROW_1, 0)[5] ^= 1, differs("a score without a predecessor", 1);
+    drive(), cell(ROW_7, 0)[6] ^= 0x80000000, differs("a score of the last row", 7);
+    drive(), cell(ROW_0, 0)[5] = 0xBFF00000, replays("a finite score that moves the predecessor", BOX_REFUSED_JOURNAL, CLEAN);
+    drive(), cell(ROW_6, 1)[5] = 0xC0590000, differs("a score without a step", 6);
+    drive(), cell(ROW_2, 0)[0] ^= 1 << 11, differs("a parent", 2);
+    drive(), cell(ROW_6, 1)[0] &= ~(31u << 11), differs("a parent without a step", 6);
+    drive(), cell(ROW_5, 0)[6] ^= 1, cell(ROW_2, 0)[6] ^= 1, differs("two scores", 2);
+    drive(), cell(ROW_2, 0)[6] ^= 1, cell(ROW_7, 0)[0] |= 3, replays("and an unknown element", BOX_REFUSED_CANDIDATE, CLEAN);
+    drive(), cell(ROW_2, 0)[6] ^= 1, lent.journal[ROW_7]++, replays("and a wrong head", BOX_REFUSED_JOURNAL, CLEAN);
+    drive(), cell(ROW_7, 0)[6] ^= 1, strike(1), is_clean("a changed row that is struck");
+}
+
+/* Another network or other settings than it was fed with. Best steps before row 4 stay on their elements; row 4 has the first to
+   element 2, and row 6 the first from element 0, in the window. */
+static void other_networks(void) {
+    drive(), beta = 11, differs("another beta", 4);
+    drive(), lengths[0] = 101, differs("another length of element 0", 6);
+    drive(), lengths[2] = 101, differs("another length of element 2", 4);
+    drive(), ways[1] = 0, differs("a relation that is not passable", 4);
+    drive(), window_firsts[BOX_MAX_WINDOWS] = 9, differs("a window that begins earlier", 4);
+    drive(), window_firsts[BOX_MAX_WINDOWS] = 13, differs("a window that begins later", 6);
+    drive(), window_lasts[BOX_MAX_WINDOWS] = 21, differs("a window that ends later", 7);
+    drive(), network.window_counts = NULL, differs("no windows", 6);
+    drive(), shut(0, 21, 30), is_clean("one more window, after the last row");
+    drive(), network.elements = 4, is_clean("one more element");
+    drive(), headings[0] = 90, scale = 31, fed_again("another heading and scale");
+}
+
+/* Every bit of the used words changed, one at a time. */
+static void changed_bits(void) {
+    for (uint32_t bit = 0; bit < 32 * END; bit++) {
+        drive(), lent.journal[bit / 32] ^= (uint32_t)1 << bit % 32;
+        fed_again("a bit changed");
+    }
+}
+
+static void replayed(void) {
+    fed_and_struck();
+    changed_rows();
+    other_networks();
+    changed_bits();
+}
+
 int main(int count, char **arguments) {
     static const struct { const char *name; void (*run)(void); } groups[] = {
         {"refusals", refusals}, {"limits", limits}, {"empty", empty}, {"words", words}, {"rows", rows}, {"windows", windows},
+        {"replay", replayed},
     };
     size_t run = 0;
     for (size_t i = 0; i < sizeof groups / sizeof groups[0]; i++) {
         if (count == 2 && strcmp(arguments[1], groups[i].name) == 0) groups[i].run(), run++;
     }
-    if (run != 1) printf("usage: calls refusals|limits|empty|words|rows|windows\n");
+    if (run != 1) printf("usage: calls refusals|limits|empty|words|rows|windows|replay\n");
     return run != 1 || failures != 0;
 }

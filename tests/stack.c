@@ -54,6 +54,8 @@ static void list_steps(void) {
         numbers[3], S, floats[0], S, &count);
 }
 
+static void replay(void) { status = box_replay(BOX_NETWORK(network), 10, 30, journal, WORDS, numbers[0]); }
+
 static void build(void) { status = box_build_path(BOX_NETWORK(network), journal, WORDS, segments, SEGMENTS, &count); }
 
 static void collapse(void) {
@@ -102,9 +104,8 @@ int main(void) {
     static const struct { const char *name; void (*call)(void); } calls[] = {
         {"box_check_network", check}, {"box_shortest_path_distance", distance}, {"box_shortest_path_route", route},
         {"box_triple_is_consistent", triple}, {"box_open", open_journal}, {"box_feed", feed}, {"box_predecessor", predecessor},
-        {"box_strike", strike},
-        {"box_close", close_journal}, {"box_read_row", read_row}, {"box_list_steps", list_steps}, {"box_build_path", build},
-        {"box_remove_oscillations", collapse},
+        {"box_strike", strike}, {"box_close", close_journal}, {"box_read_row", read_row}, {"box_list_steps", list_steps},
+        {"box_replay", replay}, {"box_build_path", build}, {"box_remove_oscillations", collapse},
     };
     int wrong = 0;
     prepare();

@@ -1,6 +1,7 @@
 /* A short drive through the C interface. A train comes from the west, runs through a tunnel, and its host strikes two
    bad fixes at the far portal and feeds better ones. Before the points a reflection throws two fixes on the other
-   track; collapsing takes them out again. Later the way to track 1 is shut, and the same fixes lead to track 2. */
+   track; collapsing takes them out again. Later the way to track 1 is shut, and the same fixes lead to track 2. In the
+   end the journal is replayed, as it is and with one bit changed. */
 #include "box.h"
 
 #include <stdio.h>
@@ -206,6 +207,35 @@ static void drive_in_possession(struct host *host) {
         (unsigned)feed_one(host, last.minute - 1, &onward[3]), (unsigned)last.minute);
 }
 
+/* The word with the low half of the score of a row's first candidate. A record begins with three words, for the counts,
+   the predecessor and the minute; a candidate has one of its own and two for its intrinsic, raw log and score each. */
+static uint32_t *score_word(struct host *host, uint32_t number) {
+    struct box_row row;
+    size_t at = 1;
+    for (uint32_t i = 0; i < number; i++) {
+        read_row(host, i, &row);
+        at += BOX_RECORD_WORDS(row.count, row.predecessor_count);
+    }
+    return &host->journal[at + 3 + 6];
+}
+
+static void show_replay(const char *what, const struct host *host) {
+    uint32_t row;
+    uint32_t answer = box_replay(BOX_NETWORK(network), beta, scale, host->journal, WORDS, &row);
+    if (answer == BOX_DIFFERS) {
+        printf("%s: row %u differs.\n", what, (unsigned)row);
+    } else {
+        expect_done("replay", answer);
+        printf("%s: clean.\n", what);
+    }
+}
+
+static void replay_in_another_cab(struct host *host) {
+    show_replay("10. The journal, replayed in another cab", host);
+    *score_word(host, 6) ^= 1;
+    show_replay("11. The same with one bit of a score in row 6 changed", host);
+}
+
 int main(void) {
     static struct host host;
     struct box_segment segments[ROWS];
@@ -242,5 +272,6 @@ int main(void) {
     show_decisions(decisions, decided);
 
     drive_in_possession(&host);
+    replay_in_another_cab(&host);
     return 0;
 }

@@ -39,6 +39,7 @@ on_network! {
         rows: *mut u32, row_room: usize, candidates: *mut u32, candidate_room: usize, steps: *mut f64, step_room: usize,
         count: *mut usize
     );
+    box_replay(beta: f64, scale: f64, journal: *const u32, journal_words: usize, row: *mut u32);
     box_build_path(journal: *const u32, journal_words: usize, segments: *mut Segment, segment_room: usize, count: *mut usize);
 }
 

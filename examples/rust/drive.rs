@@ -1,5 +1,5 @@
 //! The drives of `examples/c/drive.c` through the safe interface: it prints the same text.
-use matcher::{remove_oscillations, Decision, Fix, Journal, Network, Refusal, Segment, Settings, Side};
+use matcher::{remove_oscillations, Decision, Fix, Journal, Network, Refusal, Replay, Segment, Settings, Side};
 
 // ---- The network. Every element runs from west (side 0) to east (side 1).
 //
@@ -194,6 +194,33 @@ fn drive_in_possession(words: &mut [u32]) -> Result<(), Refusal> {
     Ok(())
 }
 
+/// The word with the low half of the score of a row's first candidate. A record begins with three words, for the counts, the
+/// predecessor and the minute; a candidate has one of its own and two for its intrinsic, raw log and score each.
+fn score_word(journal: &Journal, number: u32) -> Result<usize, Refusal> {
+    let mut at = 1;
+    for i in 0..number {
+        let row = journal.row(i)?;
+        at += 7 * row.count + 2 * row.count * row.predecessor_count + 5;
+    }
+    Ok(at + 3 + 6)
+}
+
+fn show_replay(what: &str, journal: &Journal) -> Result<(), Refusal> {
+    match journal.replay(&NETWORK, SETTINGS)? {
+        Replay::Clean => println!("{what}: clean."),
+        Replay::Differs(row) => println!("{what}: row {row} differs."),
+    }
+    Ok(())
+}
+
+fn replay_in_another_cab(words: &mut [u32]) -> Result<(), Refusal> {
+    let journal = Journal::resume(words);
+    show_replay("10. The journal, replayed in another cab", &journal)?;
+    let at = score_word(&journal, 6)?;
+    words[at] ^= 1;
+    show_replay("11. The same with one bit of a score in row 6 changed", &Journal::resume(words))
+}
+
 fn main() -> Result<(), Refusal> {
     NETWORK.check()?;
     println!("1. The network is accepted.");
@@ -225,5 +252,6 @@ fn main() -> Result<(), Refusal> {
     show_segments(left);
     show_decisions(decisions);
 
-    drive_in_possession(&mut words)
+    drive_in_possession(&mut words)?;
+    replay_in_another_cab(&mut words)
 }

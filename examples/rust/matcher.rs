@@ -1,4 +1,4 @@
-//! Box for Rust: its thirteen calls on slices, safe to call with any values. `include/box.h` says more of each of them.
+//! Box for Rust: its fourteen calls on slices, safe to call with any values. `include/box.h` says more of each of them.
 //!
 //! Nothing is allocated and no standard library is needed. A refused call changes no lent memory.
 #![no_std]
@@ -199,6 +199,16 @@ pub struct Steps {
     pub steps: [f64; MAX_STEPS],
 }
 
+/// What replaying a journal tells.
+#[derive(Clone, Copy, Debug, PartialEq, Eq)]
+#[must_use]
+pub enum Replay {
+    /// The words of each row are those that feeding the fix it records would write.
+    Clean,
+    /// Those of this row, the first such one, are not.
+    Differs(u32),
+}
+
 /// A part of the path: an element, from where to where on it, and its rows.
 #[repr(C)]
 #[derive(Clone, Copy, Debug, Default, PartialEq)]
@@ -381,6 +391,19 @@ impl<'a> Journal<'a> {
             s.candidates.as_mut_ptr(), N, s.steps.as_mut_ptr(), N, &mut s.count
         ))?;
         Ok(s)
+    }
+
+    /// Whether feeding with this network and these settings can have written the journal, say one from another cab: it is clean
+    /// exactly where some accepted fixes and strikes from opening leave its used words.
+    pub fn replay(&self, network: &Network, settings: Settings) -> Result<Replay, Refusal> {
+        let mut row = 0;
+        let status = on_network!(
+            box_replay, network, settings.beta, settings.scale, self.words.as_ptr(), self.words.len(), &mut row
+        );
+        match status {
+            254 => Ok(Replay::Differs(row)),
+            _ => done(status).map(|()| Replay::Clean),
+        }
     }
 
     /// The best path as segments, with those that bridge the gaps; empty where there is no path. A bridge uses the relations that
