@@ -1,5 +1,5 @@
 """Cases in which each call refuses with each number that it has, and their neighbours that it accepts, at both edges of each range; the edges at
-which a side pair or a step is possible or a bridge is made; and those of windows and minutes."""
+which a side pair or a step is possible or a bridge is made; those of windows and minutes; and journals that are loaded and replayed."""
 
 import itertools
 import math
@@ -67,8 +67,8 @@ THIRD = feed(candidate(2, raw_log=-2.0), distances=(100.0, 50.0))
 DRIVE = "journal 100\n" + feed(candidate()) + SECOND + THIRD
 
 # The calls over a network, and those over a journal.
-NETWORK_CALLS = ("route 0 0 2 1\n", "triple 0 1 2\n", "steps 2\n", "segments\n", feed())
-JOURNAL_CALLS = ("close\n", "row 2\n", "steps 2\n", "segments\n", feed(), "strike 1\n", "open\n")
+NETWORK_CALLS = ("route 0 0 2 1\n", "triple 0 1 2\n", "steps 2\n", "segments\n", "replay\n", feed())
+JOURNAL_CALLS = ("close\n", "row 2\n", "steps 2\n", "segments\n", "replay\n", feed(), "strike 1\n", "open\n")
 FIELDS = "lengths headings flags from to from_side to_side forward backward window_counts window_firsts window_lasts".split()
 
 
@@ -131,8 +131,8 @@ def settings():
     yield start()
     edges = (0.0, -0.0, 0.001, 1e6, below(0.001), above(1e6), -1.0, NAN, INFINITY)
     for beta, scale in [(edge, 30.0) for edge in edges] + [(50.0, edge) for edge in edges]:
-        yield line("settings", beta, scale) + "steps 2\n" + feed() + "strike 1\n"
-    yield line("settings", -1.0, 30.0) + network((element(0, -1.0),)) + "steps 2\n" + feed()
+        yield line("settings", beta, scale) + "steps 2\nreplay\n" + feed() + "strike 1\n"
+    yield line("settings", -1.0, 30.0) + network((element(0, -1.0),)) + "steps 2\nreplay\n" + feed()
 
 
 # ---- journals
@@ -268,7 +268,7 @@ def fixes():
     ):
         yield "journal 400\n" + feed(candidate(), candidate(**faulty))
     for known in (3, 2):
-        yield DRIVE + network((ELEMENT,) * known, RELATIONS[:1]) + "steps 1\nsteps 0\nsegments\n" + feed()
+        yield DRIVE + network((ELEMENT,) * known, RELATIONS[:1]) + "steps 1\nsteps 0\nsegments\nreplay\n" + feed()
     yield network()
     yield title(10, "the edges of a distance, and how many there are")
     for distance in (0.0, -0.0, 20100000.0, above(20100000.0), below(0.0), NAN, INFINITY):
@@ -488,8 +488,8 @@ def window_order():
     yield title("16, 6, 7", "all at once, then without the first of them, and so on")
     yield start() + word(0, 0xFFFFFFFF) + windows(0, (5, 5)) + line("settings", -1.0, 30.0) + calls + windows(0, FINE) + calls + SETTINGS + calls
     yield title("16, 9, 13", "the same")
-    yield start() + network((ELEMENT,) * 2, RELATIONS[:1]) + windows(0, (5, 5)) + "steps 3\nsegments\n" + feed(candidate(2))
-    yield windows(0, FINE) + "steps 3\nsegments\n" + feed(candidate(2))
+    yield start() + network((ELEMENT,) * 2, RELATIONS[:1]) + windows(0, (5, 5)) + "steps 3\nsegments\nreplay\n" + feed(candidate(2))
+    yield windows(0, FINE) + "steps 3\nsegments\nreplay\n" + feed(candidate(2))
 
 
 def window_slices():
@@ -559,7 +559,7 @@ def minute_words():
         around = {0, earlier - 1, earlier, earlier + 1, time, later - 1, later, later + 1, 2**28 - 1} - {-1, 2**28}
         values = [0x80000000 + value for value in sorted(around)] + [kind + time for kind in (0, 0x70000000, 0x90000000, 0xF0000000)]
         at = TIMED_ROWS[row] + 2
-        yield from (word(at, value) + f"row {row}\nclose\nsteps 3\nsegments\nstrike 0\n" + word(at, 0x80000000 + time) for value in values)
+        yield from (word(at, value) + f"row {row}\nclose\nsteps 3\nsegments\nreplay\nstrike 0\n" + word(at, 0x80000000 + time) for value in values)
     yield title(7, "minutes that all rise from another, and a fix behind a last minute that was poked")
     yield "".join(word(at + 2, 0x80000000 + 20 + row) for row, at in enumerate(TIMED_ROWS)) + "words\n" + "".join(JOURNAL_CALLS[:-1]) + fed_at(22, 23)
     yield TIMED + word(TIMED_ROWS[3] + 2, 0x8FFFFFFF) + fed_at(9, 2**28 - 1) + "words\n" + minute(0)
@@ -620,7 +620,225 @@ def minute_bridges():
     yield minute(0)
 
 
+# ---- journals that are loaded and replayed (document 02, K5)
+
+def halves(value):
+    return bits(value) >> 32, bits(value) & 0xFFFFFFFF
+
+
+def record(*cells, distances=(), place=0, minute=0):
+    """The words of a row's record, whose predecessor stands at a place. A cell is a candidate, its parent and its score."""
+    before = len(distances) // len(cells) if cells else 0
+    words = [0x10000000 | before << 5 | len(cells), 0x70000000 + place, 0x80000000 + minute]
+    for (element, intrinsic, near, raw_log), parent, score in cells:
+        words += [0x20000000 | parent << 11 | near << 10 | element, *halves(intrinsic), *halves(raw_log), *halves(score)]
+    words += [0x30000000 + len(distances), *itertools.chain(*map(halves, distances))]
+    return words + [0x40000000 + len(words) + 1]
+
+
+def journal(*records):
+    """The used words of a journal."""
+    words = list(itertools.chain(*records))
+    return [0x50000001 + len(words), *words]
+
+
+def load(words):
+    return f"load {len(words)}\n" + "".join(" ".join(f"{word:08X}" for word in words[at:at + 14]) + "\n" for at in range(0, len(words), 14))
+
+
+NONE = 31
+# Three rows on one element, on which a step scores 0: the score of a row is that of the one before, and its own log. The places of their records.
+STAYING = (
+    record((candidate(), NONE, -1.0)),
+    record((candidate(), 0, -2.0), distances=(0.0,), place=1),
+    record((candidate(), 0, -3.0), distances=(0.0,), place=13),
+)
+STAYED = journal(*STAYING)
+*STAYED_ROWS, _ = places(((1, 0), (1, 1), (1, 1)))
+LOADED_CALLS = ("words\n", "replay\n", "close\n", "row 2\n", "steps 2\n", "segments\n", feed(), "strike 0\n")
+
+
+def loads():
+    """Slices of just the words that were loaded: as long as they are, and with nothing changed in them."""
+    calls = "".join(LOADED_CALLS)
+    yield "\n# load: no words, and then one; a first word that is none, that of no row, one that tells too few, one that tells too many\n"
+    yield minute(0) + network() + SETTINGS + load([]) + calls + "open\nwords\n"
+    for first in (0xFFFFFFFF, 0x50000001, 0x50000000, 0x50000002, 0x40000001, 0):
+        yield load([first]) + calls + "open\nreplay\nwords\n"
+    yield "\n# load: a journal with no room, with room for a fix and for all but its last word; what is past the used words\n"
+    for more in ((), (0xFFFFFFFF,) * 5, (0xFFFFFFFF,) * 4, STAYING[1], (0x10000000, 0x70000000)):
+        yield load([*STAYED, *more]) + calls + "replay\nwords\n"
+    yield "\n# load: cut short, with its first word as it was, and with one that tells what is left\n"
+    for end in (1, 2, *STAYED_ROWS[1:], len(STAYED) - 1):
+        yield load(STAYED[:end]) + calls + load([0x50000000 + end, *STAYED[1:end]]) + calls
+    yield "\n# load: a journal over one that was fed and poked, which is gone; then a longer and a shorter one\n"
+    yield DRIVE + word(0, 0) + load(STAYED) + calls + "journal 40\n" + feed(candidate()) + "words\nreplay\n" + load(STAYED[:1]) + calls
+    yield "\n# load: opened, fed, struck and poked as any journal\n"
+    yield load([0] * 30) + "open\nreplay\n" + feed(candidate()) + feed(candidate(), distances=(0.0,)) + "words\nreplay\nstrike 1\nreplay\n"
+    yield word(29, 1) + feed(candidate(1), distances=(100.0,)) + "words\nreplay\n" + word(5, 0) + "replay\n"
+
+
+def replays():
+    """Which row is told, and what is not looked at."""
+    yield "\n# replay: a journal just opened, and one that could not be\n" + minute(0) + network() + SETTINGS
+    yield "journal 1\nreplay\njournal 400\nreplay\njournal 0\nreplay\n"
+    yield "\n# replay: three rows; the score of each a unit less, of two, of all: the first is told\n" + load(STAYED) + "replay\n"
+    for marred in itertools.product((0, 1), repeat=3):
+        yield "".join(word(at + 9, mar) for at, mar in zip(STAYED_ROWS, marred)) + "replay\n"
+    yield "\n# replay: fixes that are other than they were, but each row is what feeding gives\n"
+    first = record((candidate(raw_log=-4.0), NONE, -4.0))
+    for scores in itertools.product((-2.0, -5.0), (-3.0, -6.0)):
+        behind = (record((candidate(), 0, score), distances=(0.0,), place=at) for at, score in zip(STAYED_ROWS, scores))
+        yield load(journal(first, *behind)) + "replay\n"
+    yield "\n# replay: after strikes, over words that other rows left; over a record that is not used\n"
+    yield DRIVE + "".join("strike 1\nreplay\n" for _ in range(3)) + DRIVE + "strike 2\n" + SECOND + "replay\n" + THIRD + "replay\nwords\n"
+    yield DRIVE + word(ROWS[2], 0) + "replay\nstrike 1\n" + word(0, 0x50000000 + ROWS[2]) + "replay\n"
+    yield "\n# replay: a slice that it does not take stays cut for the call that does\n" + DRIVE
+    yield "short answer 0\nreplay\nclose\nshort elements 1\nreplay\n" + feed(candidate(), candidate(), distances=(0.0,) * 2)
+    yield from replayed_fields()
+    yield from replayed_zeros()
+    yield from replayed_tunnel()
+    yield from replayed_crowd()
+    yield from replayed_changes()
+    yield from replayed_minutes()
+
+
+# A drive in which each field counts, two candidates a row: which of them are near, what their parents are, and where the records begin.
+PAIR_FIXES = (
+    ((candidate(0, 0.25, near=0), candidate(0, 0.75, raw_log=-2.0)), ()),
+    ((candidate(1, 0.25, raw_log=-0.5), candidate(1, 0.75, near=0)), (100.0, 150.0, 40.0, 90.0)),
+    ((candidate(0, 0.5), candidate(2, 0.5, near=0, raw_log=-0.25)), (75.0, 120.0, 100.0, 60.0)),
+)
+PAIR_PARENTS = (NONE, NONE), (0, 1), (0, 0)
+PAIRS_FED = "journal 200\n" + "".join(feed(*candidates, distances=distances) for candidates, distances in PAIR_FIXES)
+*PAIR_ROWS, _ = places(((2, 0), (2, 2), (2, 2)))
+PAIR_CELLS = [(row, number, PAIR_ROWS[row] + 3 + 7 * number) for row in range(3) for number in range(2)]
+
+
+def replayed_names():
+    """Parents, near flags and elements, each as it was fed and otherwise."""
+    for row, number, at in PAIR_CELLS:
+        (name, _, near, _), parent = PAIR_FIXES[row][0][number], PAIR_PARENTS[row][number]
+        parents = ((other, near, name) for other in (0, 1, 2, NONE))
+        fixes = ((parent, flag, other) for flag in (0, 1) for other in (0, 1, 2, 3))
+        for parent, flag, other in (*parents, *fixes):
+            yield PAIRS_FED + word(at, 0x20000000 | parent << 11 | flag << 10 | other) + "replay\n"
+
+
+def replayed_floats():
+    """Intrinsics, raw logs, scores and distances, next to what was fed and others."""
+    for row, number, at in PAIR_CELLS:
+        _, intrinsic, _, raw_log = PAIR_FIXES[row][0][number]
+        yield from (PAIRS_FED + float_words(at + 1, value) + "replay\n" for value in (0.0, 1.0, *around(intrinsic)))
+        yield from (PAIRS_FED + float_words(at + 3, value) + "replay\n" for value in (0.0, -INFINITY, *around(raw_log)))
+        yield from (PAIRS_FED + float_words(at + 5, value) + "replay\n" for value in (0.0, -INFINITY, -1.5, -2.0))
+        yield from (PAIRS_FED + word(at + 6, value) + "replay\n" for value in (0, 1))
+    for row, number in itertools.product((1, 2), range(4)):
+        at, distance = PAIR_ROWS[row] + 18 + 2 * number, PAIR_FIXES[row][1][number]
+        yield from (PAIRS_FED + float_words(at, value) + "replay\n" for value in (0.0, 20100000.0, *around(distance)))
+
+
+def replayed_fields():
+    """Each field of a record, by the row that it is in."""
+    yield "\n# replay: parents, near flags and elements, in range and not\n" + PAIRS_FED + "replay\nrow 0\nrow 1\nrow 2\n"
+    yield from replayed_names()
+    yield "\n# replay: intrinsics, raw logs, scores and distances\n"
+    yield from replayed_floats()
+    yield "\n# replay: raw logs below the floor score alike, but not in a first row\n"
+    floored = "journal 100\n" + feed(candidate(raw_log=-24.0)) + feed(candidate(raw_log=-24.0), distances=(0.0,)) + "replay\n"
+    yield from (floored + float_words(at, value) + "replay\n" for at in (7, 19) for value in (-745.0, -INFINITY, -23.5, -23.0))
+
+
+def replayed_zeros():
+    """0.0 and -0.0 are different words of one number."""
+    yield "\n# replay: scores and raw logs of 0.0 and -0.0\n" + network() + SETTINGS
+    for raw_log in (0.0, -0.0):
+        fed = "journal 40\n" + feed(candidate(raw_log=raw_log)) + feed(candidate(raw_log=raw_log), distances=(0.0,)) + "words\nreplay\n"
+        yield from (fed + float_words(at, value) + "replay\n" for at in (7, 9, 19, 21) for value in (0.0, -0.0))
+        yield fed + float_words(24, -0.0) + "replay\n"
+        yield fed + float_words(7, -raw_log) + float_words(9, -raw_log) + "replay\n"
+
+
+def replayed_tunnel():
+    """Rows whose predecessor is not the row before, rows that break, rows that do not score, empty rows."""
+    yield "\n# replay: a drive through a tunnel; the score of each row that has one, a unit less or more; parents, near flags, elements\n"
+    yield network() + SETTINGS + TUNNEL + "replay\nrow 5\nrow 6\n"
+    for row in (2, 5, 6):
+        at = TUNNEL_ROWS[row] + 3
+        yield from (TUNNEL + word(at + 6, value) + "replay\n" for value in (1, 0xFFFFFFFF))
+        yield from (TUNNEL + word(at, 0x20000000 | parent << 11 | near << 10 | name) + "replay\n"
+                    for parent in (0, NONE) for near in (0, 1) for name in (0, 1, 2))
+    yield "\n# replay: the row that does not score made to score, behind which rows name none; as the last row; its raw log alone\n"
+    yield TUNNEL + float_words(TUNNEL_ROWS[0] + 8, -1.0) + "replay\nstrike 0\n" + TUNNEL + "strike 7\nreplay\n" + float_words(9, -1.0) + "replay\n"
+    yield float_words(7, -1.0) + "replay\n" + float_words(9, -INFINITY) + "replay\n"
+    yield "\n# replay: the minutes of empty rows\n" + TUNNEL
+    minutes = (7, 1), (7, 2**28 - 1), (6, 1), (4, 1), (4, 0), (1, 1), (1, 0)
+    yield from (word(TUNNEL_ROWS[row] + 2, 0x80000000 + value) + "replay\n" for row, value in minutes)
+    yield "\n# replay: before the first row that scores one of two candidates that does not, behind it an empty one\n"
+    silent = feed(candidate(1, near=0, raw_log=-INFINITY), candidate(2, near=0, raw_log=-INFINITY))
+    yield "journal 100\n" + silent + feed(candidate()) + feed() + feed(candidate(1), candidate(2), distances=(90.0, 200.0)) + feed() + "replay\n"
+    yield feed(candidate(2), distances=(90.0, 0.0)) + "replay\nwords\n"
+
+
+def replayed_crowd():
+    """16 candidates on 16, each the parent of the one of its own number."""
+    yield "\n# replay: 16 candidates on 16; the last one's score and parent, the last distance, the first; the score of the last one before\n"
+    first, second = ([candidate(element, number / 16) for number in range(16)] for element in (0, 1))
+    own = feed(*second, distances=[100.0 if p == c else 1000.0 for p in range(16) for c in range(16)])
+    yield network() + SETTINGS + "journal 1200\n" + feed(*first) + own + "replay\n"
+    (_, at, end), last = places(((16, 0), (16, 16))), 3 + 7 * 15
+    yield from (word(at + last + 6, value) + "replay\n" for value in (1, 0))
+    yield from (word(at + last, 0x20000401 | parent << 11) + "replay\n" for parent in (14, 16, 31, 15))
+    for place in (at + 116, end - 3):
+        yield from (float_words(place, value) + "replay\n" for value in (90.0, above(100.0), 1000.0, 100.0))
+    yield word(1 + last + 6, 1) + "replay\n"
+
+
+def replayed_changes():
+    """Other networks and settings than those fed with."""
+    turned = (ELEMENT, element(3, 120.0), ELEMENT)
+    yield "\n# replay: other settings, and the same again\n" + network(turned) + SETTINGS + PAIRS_FED + "replay\n"
+    for beta, scale in ((above(50.0), 30.0), (25.0, 30.0), (0.0, 30.0), (50.0, above(30.0)), (50.0, 1.0), (50.0, 30.0)):
+        yield line("settings", beta, scale) + "replay\n"
+    yield "\n# replay: other networks: more elements, each one's length, a heading, a flag; no relation, one of them, one way\n"
+    more, unturned = (*turned, ELEMENT), (ELEMENT, element(5, 0), ELEMENT)
+    lengths = (turned[:at] + ((101.0, *turned[at][1:]),) + turned[at + 1:] for at in range(3))
+    yield from (network(elements) + "replay\n" for elements in (more, *lengths, (ELEMENT,) * 3, unturned, turned))
+    for relations in ((), RELATIONS[:1], RELATIONS[1:], (relation(4, 0), RELATIONS[1]), (relation(5, 0), RELATIONS[1]), RELATIONS):
+        yield network(turned, relations) + "replay\n"
+    yield "\n# 9, replay: fewer elements, in a journal whose rows are on all of them, on the first one, on none\n"
+    for fixes in (3, 2, 1, 0):
+        yield network() + "journal 100\n" + "".join((feed(candidate()), SECOND, THIRD)[:fixes])
+        yield from (network((ELEMENT,) * known, RELATIONS) + "replay\n" for known in (3, 2, 1, 0))
+    yield "\n# 7 and 9, replay: both\n" + network() + DRIVE + word(1, 0) + network((ELEMENT,))
+    yield "replay\n" + word(1, 0x10000001) + "replay\n" + network() + "replay\n"
+
+
+def replayed_minutes():
+    """Each row at its own minute."""
+    there, back = feed(candidate(1), distances=(100.0,)), feed(candidate(0), distances=(100.0,))
+    yield "\n# replay: rows before a window, in it and behind it; each minute earlier or later; other windows, and the same again; none\n"
+    yield network() + windows(0, (10, 20))
+    times = (9, 9, 10, 19, 19, 20, 30)
+    fed = "journal 200\n" + "".join(minute(time) + fix for time, fix in zip(times, (feed(candidate()), there, back, there, back, there, back)))
+    yield fed + minute(0) + "replay\n" + "".join(f"row {row}\n" for row in range(1, 7))
+    *at, _ = places(((1, 0), *((1, 1),) * 6))
+    for row, time in enumerate(times):
+        earlier, later = (0, *times)[row], (*times, 2**28 - 1)[row + 1]
+        others = (value for value in sorted({earlier, earlier + 1, 10, 19, 20, later}) if earlier <= value <= later)
+        yield from (word(at[row] + 2, 0x80000000 + value) + "replay\n" for value in (*others, time))
+    yield "replay\n"
+    for pairs in (((9, 20),), ((10, 19),), ((11, 20),), ((10, 21),), ((30, 31),), (), ((19, 20), (10, 19)), ((10, 20),)):
+        yield windows(0, *pairs) + "replay\n"
+    yield "".join(f"short {name} 0\n" for name in FIELDS[9:]) + "replay\nreplay\n"
+    yield "\n# replay: an empty row in a window, between two that are not\n"
+    yield from ("journal 100\n" + minute(first) + feed(candidate()) + minute(empty) + feed() + minute(last) + there + "replay\n"
+                + word(15, 0x80000000 + first) + "replay\n" + word(15, 0x80000000 + last) + "replay\n" + word(20, 0x80000000 + empty) + "replay\n"
+                for first, empty, last in ((9, 15, 20), (9, 9, 15), (10, 15, 19), (5, 20, 25)))
+    yield minute(0)
+
+
 def cases():
     kinds = (networks, limits, settings, journals, predecessors, fixes, rows, lists, thresholds, lowest_terms, lowest_sums, lowest_rows, window_edges,
-             window_refusals, window_slices, minutes, minute_words, minute_steps, minute_bridges)
+             window_refusals, window_slices, minutes, minute_words, minute_steps, minute_bridges, loads, replays)
     return "".join(part for kind in kinds for part in kind())

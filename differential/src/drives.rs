@@ -10,14 +10,14 @@ use crate::session::Session;
 use std::fmt::Write;
 
 /// The text so far, and where it leads by document 01.
-struct Script<'a> {
+pub struct Script<'a> {
     out: &'a mut String,
-    session: Session<Document>,
+    pub session: Session<Document>,
 }
 
 impl Script<'_> {
     /// Writes commands and performs them.
-    fn say(&mut self, text: &str) {
+    pub fn say(&mut self, text: &str) {
         self.out.push_str(text);
         self.out.push('\n');
         let mut words = Words::behind(self.session.network.relations.len(), text);
@@ -26,19 +26,23 @@ impl Script<'_> {
         }
     }
 
-    fn rows(&self) -> Vec<Row> {
+    pub fn rows(&self) -> Vec<Row> {
         self.session.standing()
     }
 
+    pub fn poke(&mut self, at: usize, word: u32) {
+        self.say(&format!("poke {at} {word:08X}"));
+    }
+
     /// A fix's text, behind its minute if that is another than now.
-    fn feed_text(&self, fix: &Fix) -> String {
+    pub fn feed_text(&self, fix: &Fix) -> String {
         let minute = if fix.minute == self.session.minute { String::new() } else { format!("minute {}\n", fix.minute) };
         minute + &fix_text(fix)
     }
 }
 
 /// What a drive's fixes are drawn from.
-struct Habits {
+pub struct Habits {
     most_candidates: u32,
     near: u32,
     stay: u32,
@@ -48,13 +52,13 @@ struct Habits {
     lowest: u32,
     strikes: u32,
     faults: u32,
-    shorts: u32,
+    pub shorts: u32,
     changes: u32,
     moves: u32,
 }
 
 /// The minute moves in few drives without windows, and in most with some.
-fn habits(random: &mut Random, network: &Network) -> Habits {
+pub fn habits(random: &mut Random, network: &Network) -> Habits {
     let has_windows = network.relations.iter().any(|relation| relation.windows.count > 0);
     Habits {
         most_candidates: if random.chance(1) { 16 } else { random.pick(&[1, 2, 2, 3, 3, 3, 4]) },
@@ -73,7 +77,7 @@ fn habits(random: &mut Random, network: &Network) -> Habits {
 }
 
 /// A binary64 of at least 0, or one next to it.
-fn neighbour(random: &mut Random, value: f64) -> f64 {
+pub fn neighbour(random: &mut Random, value: f64) -> f64 {
     let bits = value.to_bits();
     f64::from_bits(random.pick(&[bits, bits, bits + 1, bits.saturating_sub(1)]))
 }
@@ -109,7 +113,11 @@ fn settings(random: &mut Random, document: &Document) -> Settings {
     Settings { beta, scale }
 }
 
-fn raw_log(random: &mut Random, habits: &Habits) -> f64 {
+pub fn settings_text(settings: Settings) -> String {
+    format!("settings {} {}", float(settings.beta), float(settings.scale))
+}
+
+pub fn raw_log(random: &mut Random, habits: &Habits) -> f64 {
     let floor = [-23.025850929940457, -23.02585092994046, -23.025850929940453, -745.0, -0.0];
     match random.below(10) {
         _ if random.chance(habits.impossible) => f64::NEG_INFINITY,
@@ -120,7 +128,7 @@ fn raw_log(random: &mut Random, habits: &Habits) -> f64 {
     }
 }
 
-fn intrinsic(random: &mut Random, habits: &Habits) -> f64 {
+pub fn intrinsic(random: &mut Random, habits: &Habits) -> f64 {
     match random.below(8) {
         0 => random.pick(&[0.9999999999999999, 5e-324, 0.1]),
         1 => random.unit(),
@@ -193,7 +201,7 @@ fn minute(random: &mut Random, habits: &Habits, script: &Script) -> u32 {
     }
 }
 
-fn fix(random: &mut Random, habits: &Habits, script: &mut Script) -> Fix {
+pub fn fix(random: &mut Random, habits: &Habits, script: &mut Script) -> Fix {
     let minute = minute(random, habits, script);
     let rows = script.rows();
     let elements = script.session.network.elements.len() as u32;
@@ -242,10 +250,10 @@ fn fix_text(fix: &Fix) -> String {
     out
 }
 
-const OF_ELEMENTS: &[&str] = &["lengths", "headings", "flags"];
-const OF_RELATIONS: &[&str] =
+pub const OF_ELEMENTS: &[&str] = &["lengths", "headings", "flags"];
+pub const OF_RELATIONS: &[&str] =
     &["from", "to", "from_side", "to_side", "forward", "backward", "window_counts", "window_firsts", "window_lasts"];
-const OF_WINDOWS: &[&str] = &["window_counts", "window_firsts", "window_lasts"];
+pub const OF_WINDOWS: &[&str] = &["window_counts", "window_firsts", "window_lasts"];
 const OF_FIX: &[&str] = &["elements", "intrinsics", "near", "raw_logs"];
 const OF_ANSWER: &[&str] = &["answer"];
 const OF_DISTANCES: &[&str] = &["distances"];
@@ -268,7 +276,7 @@ fn cut(random: &mut Random, script: &mut Script, taken: &[&[&str]]) {
 }
 
 /// A call, now and then with a slice cut short.
-fn call(random: &mut Random, script: &mut Script, habits: &Habits, taken: &[&[&str]], text: &str) {
+pub fn call(random: &mut Random, script: &mut Script, habits: &Habits, taken: &[&[&str]], text: &str) {
     if random.chance(habits.shorts) {
         cut(random, script, taken);
     }
@@ -279,7 +287,7 @@ fn call(random: &mut Random, script: &mut Script, habits: &Habits, taken: &[&[&s
 }
 
 /// Everything that can be asked about the standing rows, now and then at another minute, on which none of it hangs.
-fn ask(random: &mut Random, script: &mut Script, habits: &Habits) {
+pub fn ask(random: &mut Random, script: &mut Script, habits: &Habits) {
     let rows = script.rows().len();
     if random.chance(habits.moves) {
         let any = random.below(30);
@@ -311,7 +319,7 @@ fn row_count(random: &mut Random) -> u32 {
 }
 
 /// Other settings, other windows, or another network of about as many elements, under the standing rows; some that are refused.
-fn change(random: &mut Random, script: &mut Script) {
+pub fn change(random: &mut Random, script: &mut Script) {
     let outside = [-1.0, 0.0009999999999999998, 1_000_000.000_000_000_1, f64::NAN, f64::INFINITY];
     let Settings { mut beta, mut scale } = settings(random, &script.session.core);
     match random.below(10) {
@@ -319,7 +327,7 @@ fn change(random: &mut Random, script: &mut Script) {
         1 => scale = random.pick(&outside),
         _ => (),
     }
-    let mut text = format!("settings {} {}", float(beta), float(scale));
+    let mut text = settings_text(Settings { beta, scale });
     if random.chance(20) {
         text = networks::other_windows(random, &script.session.network).unwrap_or(text);
     } else if random.chance(40) {
@@ -335,7 +343,7 @@ fn change(random: &mut Random, script: &mut Script) {
 }
 
 /// Feeds fixes and strikes some of them again.
-fn leg(random: &mut Random, script: &mut Script, habits: &Habits) {
+pub fn feed(random: &mut Random, script: &mut Script, habits: &Habits) {
     for _ in 0..row_count(random) {
         let mut next = fix(random, habits, script);
         if random.chance(habits.faults) {
@@ -351,6 +359,10 @@ fn leg(random: &mut Random, script: &mut Script, habits: &Habits) {
             change(random, script);
         }
     }
+}
+
+fn leg(random: &mut Random, script: &mut Script, habits: &Habits) {
+    feed(random, script, habits);
     ask(random, script, habits);
 }
 
@@ -369,13 +381,11 @@ fn misname(random: &mut Random, script: &mut Script, rows: &[Row]) {
     let is_rare = |row: &usize| rows[*row].cells.is_empty() || *row > 0 && !rows[row - 1].scores();
     let rare: Vec<usize> = (0..rows.len()).filter(is_rare).collect();
     let row = if !rare.is_empty() && random.chance(50) { random.pick(&rare) } else { random.below(rows.len() as u32) as usize };
-    let word = random.pick(&misnamings(rows, row));
-    script.say(&format!("poke {} {word:08X}", rows[row].at + 1));
+    script.poke(rows[row].at + 1, random.pick(&misnamings(rows, row)));
 }
 
-/// Changes the minute of one of the rows: a word of another kind, one below the row before, one after the row behind, or any other.
-fn mistime(random: &mut Random, script: &mut Script, rows: &[Row]) {
-    let row = random.below(rows.len() as u32) as usize;
+/// Changes the minute of a row: a word of another kind, one below the row before, one after the row behind, or any other.
+pub fn mistime(random: &mut Random, script: &mut Script, rows: &[Row], row: usize) {
     let minute = rows[row].fix.minute;
     let before = last_minute(&rows[..row]);
     let after = rows.get(row + 1).map_or(MINUTE_LIMIT - 2, |row| row.fix.minute);
@@ -383,7 +393,7 @@ fn mistime(random: &mut Random, script: &mut Script, rows: &[Row]) {
     let times = [minute + 1, before.saturating_sub(1), before, after, later, random.below(30)];
     let others = [tag(7, minute as usize), tag(9, minute as usize), tag(0, minute as usize)];
     let words: Vec<u32> = times.map(|time| tag(8, (time % MINUTE_LIMIT) as usize)).into_iter().chain(others).collect();
-    script.say(&format!("poke {} {:08X}", rows[row].at + 2, random.pick(&words)));
+    script.poke(rows[row].at + 2, random.pick(&words));
 }
 
 /// Writes another count into a row's head word: any of five bits, for its candidates or for its predecessor's.
@@ -391,8 +401,7 @@ fn recount(random: &mut Random, script: &mut Script, rows: &[Row]) {
     let at = random.pick(rows).at;
     let head = script.session.journal()[at as usize];
     let place = random.pick(&[0, 5]);
-    let poked = head & !(31 << place) | random.below(32) << place;
-    script.say(&format!("poke {at} {poked:08X}"));
+    script.poke(at, head & !(31 << place) | random.below(32) << place);
 }
 
 /// Changes words of the journal, most often one bit.
@@ -409,19 +418,27 @@ fn damage(random: &mut Random, script: &mut Script) {
             3 => random.pick(&[0xFFF0_0000, 0x8000_0000, 0, 0x3FF0_0000, 0xBFF0_0000]),
             _ => word ^ 1 << random.below(32),
         };
-        script.say(&format!("poke {at} {poked:08X}"));
+        script.poke(at as usize, poked);
     }
 }
 
-/// Changes the journal and asks again.
-fn hurt(random: &mut Random, script: &mut Script, habits: &Habits) {
+/// Changes words of the journal: those that rows name their predecessors in, or have their counts or minutes in, or any.
+pub fn hurt(random: &mut Random, script: &mut Script) {
     let rows = script.rows();
     match random.below(10) {
         0..=2 if !rows.is_empty() => misname(random, script, &rows),
         3 if !rows.is_empty() => recount(random, script, &rows),
-        4..=5 if !rows.is_empty() => mistime(random, script, &rows),
+        4..=5 if !rows.is_empty() => {
+            let row = random.below(rows.len() as u32) as usize;
+            mistime(random, script, &rows, row);
+        }
         _ => damage(random, script),
     }
+}
+
+/// Changes the journal and asks again.
+fn hurt_and_ask(random: &mut Random, script: &mut Script, habits: &Habits) {
+    hurt(random, script);
     let next = fix(random, habits, script);
     ask(random, script, habits);
     script.say(&script.feed_text(&next));
@@ -429,24 +446,30 @@ fn hurt(random: &mut Random, script: &mut Script, habits: &Habits) {
     ask(random, script, habits);
 }
 
-pub fn drive(random: &mut Random, out: &mut String, network: &Network) {
+/// A network, a minute, settings and a journal.
+pub fn begin<'a>(random: &mut Random, out: &'a mut String, network: &Network) -> Script<'a> {
     let mut script = Script { out, session: Session::new(Document::new(&Network::default())) };
     script.say(&networks::text(network));
     script.say(&format!("minute {}", if random.chance(70) { 0 } else { random.below(30) }));
-    let Settings { beta, scale } = settings(random, &script.session.core);
-    script.say(&format!("settings {} {}", float(beta), float(scale)));
+    let settings = settings(random, &script.session.core);
+    script.say(&settings_text(settings));
     if random.chance(1) {
-        script.say("journal 0\nfeed 0 0\nstrike 0\nclose\nsegments\nrow 0\nsteps 0\nopen\nwords");
+        script.say("journal 0\nfeed 0 0\nstrike 0\nclose\nsegments\nrow 0\nsteps 0\nreplay\nopen\nwords");
     }
     let words = if random.chance(2) { random.between(1, 200) } else { random.pick(&[10_000, 20_000, 65_536]) };
     script.say(&format!("journal {words}"));
+    script
+}
+
+pub fn drive(random: &mut Random, out: &mut String, network: &Network) {
+    let mut script = begin(random, out, network);
     let habits = habits(random, network);
     leg(random, &mut script, &habits);
     if random.chance(10) {
         leg(random, &mut script, &habits);
     }
     if random.chance(7) {
-        hurt(random, &mut script, &habits);
+        hurt_and_ask(random, &mut script, &habits);
     }
 }
 

@@ -22,6 +22,16 @@ impl Row {
         self.cells.iter().any(|cell| cell.score != f64::NEG_INFINITY)
     }
 
+    /// Where in the journal a candidate's seven words begin: parent, near flag and element in one, then intrinsic, raw log and score.
+    pub fn cell_at(&self, number: usize) -> usize {
+        self.at + 3 + 7 * number
+    }
+
+    /// Where a distance's two words begin, behind the word with their count.
+    pub fn distance_at(&self, number: usize) -> usize {
+        self.cell_at(self.cells.len()) + 1 + 2 * number
+    }
+
     /// The words of the record of a row whose predecessor stands at `place`.
     pub fn words(&self, place: usize) -> Vec<u32> {
         let halves = |value: f64| [(value.to_bits() >> 32) as u32, value.to_bits() as u32];

@@ -120,8 +120,10 @@ pub enum Command {
     Feed(Fix),
     Strike(u32),
     Poke(u32, u32),
+    Load(Vec<u32>),
     Short(String, u32),
     Words,
+    Replay,
     Close,
     Row(u32),
     Steps(u32),
@@ -145,6 +147,9 @@ pub struct Words<'a> {
     count: usize,
     relations: u32,
 }
+
+/// The most words of a journal that are taken in.
+const MOST_WORDS: u32 = 400_000;
 
 const SLICES: &str = "lengths headings flags from to from_side to_side forward backward elements intrinsics near raw_logs distances \
                       answer decisions window_counts window_firsts window_lasts";
@@ -277,11 +282,20 @@ impl<'a> Words<'a> {
         Ok(Command::Collapse((0..count).map(|_| self.segment()).collect::<Result<_, _>>()?))
     }
 
-    fn poke(&mut self) -> Result<Command, Stop> {
-        let at = self.number()?;
+    /// A word of a journal: 8 digits.
+    fn journal_word(&mut self) -> Result<u32, Stop> {
         let word = self.next().unwrap_or("");
-        let value = (word.len() == 8).then(|| u32::from_str_radix(word, 16).ok()).flatten();
-        Ok(Command::Poke(at, value.ok_or(self.stop())?))
+        let value = (word.len() == 8 && word.bytes().all(is_hex_digit)).then(|| u32::from_str_radix(word, 16).ok());
+        value.flatten().ok_or(self.stop())
+    }
+
+    fn poke(&mut self) -> Result<Command, Stop> {
+        Ok(Command::Poke(self.number()?, self.journal_word()?))
+    }
+
+    fn load(&mut self) -> Result<Command, Stop> {
+        let count = self.number_up_to(MOST_WORDS)?;
+        Ok(Command::Load((0..count).map(|_| self.journal_word()).collect::<Result<_, _>>()?))
     }
 
     fn short(&mut self) -> Result<Command, Stop> {
@@ -306,13 +320,15 @@ impl<'a> Words<'a> {
             "windows" => self.windows()?,
             "minute" => Command::Minute(self.number()?),
             "settings" => Command::Settings(Settings { beta: self.float()?, scale: self.float()? }),
-            "journal" => Command::Journal(self.number_up_to(400_000)?),
+            "journal" => Command::Journal(self.number_up_to(MOST_WORDS)?),
             "open" => Command::Open,
             "feed" => Command::Feed(self.fix()?),
             "strike" => Command::Strike(self.number()?),
             "poke" => self.poke()?,
+            "load" => self.load()?,
             "short" => self.short()?,
             "words" => Command::Words,
+            "replay" => Command::Replay,
             "close" => Command::Close,
             "row" => Command::Row(self.number()?),
             "steps" => Command::Steps(self.number()?),
@@ -328,9 +344,13 @@ impl<'a> Words<'a> {
     }
 }
 
+fn is_hex_digit(byte: u8) -> bool {
+    byte.is_ascii_digit() || (b'A'..=b'F').contains(&byte)
+}
+
 /// A float from its 16 digits of bits or from a decimal.
 fn float_of(word: &str) -> Option<f64> {
-    let is_bits = word.len() == 16 && word.bytes().all(|b| b.is_ascii_digit() || (b'A'..=b'F').contains(&b));
+    let is_bits = word.len() == 16 && word.bytes().all(is_hex_digit);
     if is_bits {
         return u64::from_str_radix(word, 16).ok().map(f64::from_bits);
     }

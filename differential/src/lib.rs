@@ -8,6 +8,7 @@ pub mod language;
 pub mod networks;
 pub mod original;
 pub mod random;
+pub mod replays;
 pub mod routes;
 pub mod segments;
 pub mod session;

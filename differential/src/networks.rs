@@ -129,6 +129,29 @@ pub fn sized(random: &mut Random, elements: u32) -> Network {
     Network { elements: (0..elements).map(|_| element(random, lengths, straight)).collect(), relations }
 }
 
+/// The same network but for one value: a length, a heading, a flag or a way of a relation; or fewer elements, or one relation less.
+pub fn altered(random: &mut Random, network: &Network) -> Network {
+    let mut other = network.clone();
+    let (element, relation) = (random.bits() as usize, random.bits() as usize);
+    match (random.below(8), network.elements.len(), network.relations.len()) {
+        (0..=1, elements @ 1.., _) => other.elements[element % elements].length = length(random, Lengths::Few),
+        (2, elements @ 1.., _) => other.elements[element % elements].headings[element % 4] = heading(random, false),
+        (3, elements @ 1.., _) => other.elements[element % elements].flag = random.below(2),
+        (4, _, relations @ 1..) => other.relations[relation % relations].forward = flag(random),
+        (5, _, relations @ 1..) => other.relations[relation % relations].backward = flag(random),
+        (6, _, relations @ 1..) => drop(other.relations.remove(relation % relations)),
+        (_, elements, _) => other.elements.truncate(elements.saturating_sub(element % 3)),
+    }
+    other
+}
+
+/// A network in which relations are shut at some minutes, if it has any.
+pub fn with_windows(random: &mut Random) -> Network {
+    let mut network = network(random);
+    shut(random, &mut network.relations);
+    network
+}
+
 pub fn network(random: &mut Random) -> Network {
     let elements = match random.below(100) {
         0 => 0,

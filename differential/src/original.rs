@@ -228,19 +228,24 @@ impl Original {
         }
     }
 
-    /// Decodes the standing fixes, and perhaps one more. Unasked if the standing rows do not come out as they stand, or if the minutes do not see the
-    /// same relations.
-    fn decoded(&mut self, settings: Settings, rows: &[Row], more: Option<&Fix>) -> Result<Decoded, Unasked> {
-        let fixes: Vec<&Fix> = rows.iter().map(|row| &row.fix).chain(more).collect();
+    /// Decodes these fixes. Unasked if one has not the distances that it needs behind those before it, or if the minutes do not see the same relations.
+    fn decode_fairly(&mut self, settings: Settings, fixes: &[&Fix]) -> Result<Decoded, Unasked> {
         if !(0..fixes.len()).all(|at| fixes[at].predecessors() == asked_for(&fixes[..at], fixes[at])) {
             return Err(Unasked);
         }
-        self.go_to_all(&fixes)?;
-        let key = key(settings, &fixes);
+        self.go_to_all(fixes)?;
+        let key = key(settings, fixes);
         let last = self.last.take().filter(|(last, _)| *last == key);
-        let decoded = last.map_or_else(|| self.decode(settings, &fixes), |(_, decoded)| decoded);
-        let clean = rows.iter().zip(&decoded.rows).all(|(row, cells)| same(&row.cells, cells));
+        let decoded = last.map_or_else(|| self.decode(settings, fixes), |(_, decoded)| decoded);
         self.last = Some((key, decoded.clone()));
+        Ok(decoded)
+    }
+
+    /// Decodes the standing fixes, and perhaps one more. Unasked if that is not fair, or if the standing rows do not come out as they stand.
+    fn decoded(&mut self, settings: Settings, rows: &[Row], more: Option<&Fix>) -> Result<Decoded, Unasked> {
+        let fixes: Vec<&Fix> = rows.iter().map(|row| &row.fix).chain(more).collect();
+        let decoded = self.decode_fairly(settings, &fixes)?;
+        let clean = rows.iter().zip(&decoded.rows).all(|(row, cells)| same(&row.cells, cells));
         clean.then_some(decoded).ok_or(Unasked)
     }
 
@@ -320,6 +325,11 @@ impl Core for Original {
             Ok(mut decoded) => Ok(decoded.rows.remove(rows.len())),
             Err(Unasked) => self.row_alone(settings, rows, fix),
         }
+    }
+
+    fn all_rows(&mut self, settings: Settings, rows: &[Row]) -> Result<Vec<Vec<Cell>>, Unasked> {
+        let fixes: Vec<&Fix> = rows.iter().map(|row| &row.fix).collect();
+        Ok(self.decode_fairly(settings, &fixes)?.rows)
     }
 
     fn steps(&mut self, settings: Settings, rows: &[Row], row: usize) -> Result<Vec<Step>, Unasked> {

@@ -40,6 +40,10 @@ pub trait Core {
     fn route(&mut self, minute: u32, from: Side, to: Side) -> Option<Route>;
     fn triple(&mut self, minute: u32, elements: [u32; 3]) -> bool;
     fn row(&mut self, settings: Settings, rows: &[Row], fix: &Fix) -> Result<Vec<Cell>, Unasked>;
+    /// What feeding the fixes of all these rows gives, from the first on, where that can be asked at once.
+    fn all_rows(&mut self, _settings: Settings, _rows: &[Row]) -> Result<Vec<Vec<Cell>>, Unasked> {
+        Err(Unasked)
+    }
     fn steps(&mut self, settings: Settings, rows: &[Row], row: usize) -> Result<Vec<Step>, Unasked>;
     fn close(&mut self, settings: Settings, rows: &[Row]) -> Result<Option<Path>, Unasked>;
     fn segments(&mut self, settings: Settings, rows: &[Row]) -> Result<Vec<Segment>, Unasked>;
@@ -128,12 +132,14 @@ impl<C: Core> Session<C> {
             Command::Minute(minute) => self.set_minute(*minute),
             Command::Settings(settings) => self.set_settings(*settings),
             Command::Poke(at, word) => self.poke(*at as usize, *word),
+            Command::Load(words) => self.load(words),
             Command::Short(slice, count) => self.short(slice, *count as usize),
             Command::Journal(words) => self.new_journal(*words as usize),
             Command::Open => self.open(),
             Command::Feed(fix) => self.feed(fix),
             Command::Strike(count) => self.strike(*count as usize),
             Command::Words => self.words(),
+            Command::Replay => self.replay(),
             Command::Close => self.close(),
             Command::Row(row) => self.row(*row as usize),
             Command::Steps(row) => self.steps(*row as usize),
@@ -193,6 +199,13 @@ impl<C: Core> Session<C> {
         if let Some(place) = self.journal.get_mut(at) {
             *place = word;
         }
+        Ok(())
+    }
+
+    /// The journal is a slice of just these words.
+    fn load(&mut self, words: &[u32]) -> Result<(), No> {
+        self.journal = words.to_vec();
+        self.lost = false;
         Ok(())
     }
 
@@ -329,6 +342,39 @@ impl<C: Core> Session<C> {
             self.line(format_args!("{word:08X}"));
         }
         Ok(())
+    }
+
+    fn replay(&mut self) -> Result<(), No> {
+        let network = self.take_network()?;
+        refuse(checks::settings(self.settings))?;
+        let rows = self.rows()?;
+        let elements = network.elements.len();
+        refuse(checks::standing(&rows, elements))?;
+        match self.on(&network, |session| session.feed_again(&rows, elements))? {
+            None => self.line(format_args!("replay clean")),
+            Some(row) => self.line(format_args!("replay row {row}")),
+        }
+        Ok(())
+    }
+
+    /// Feeds the fixes of the standing rows anew, behind none at first: the number of the first whose record comes out otherwise than it stands.
+    fn feed_again(&mut self, rows: &[Row], elements: usize) -> Result<Option<usize>, Unasked> {
+        let all = self.core.all_rows(self.settings, rows).ok();
+        let mut fed: Vec<Row> = Vec::new();
+        for (number, Row { at, fix, .. }) in rows.iter().enumerate() {
+            assert_eq!(checks::fix(fix, &fed, elements, usize::MAX), None, "the fix of row {number} is refused");
+            let cells = match &all {
+                Some(all) => all[number].clone(),
+                None => self.core.row(self.settings, &fed, fix)?,
+            };
+            let again = Row { at: *at, fix: fix.clone(), cells };
+            let record = again.words(place(&fed));
+            if record != self.journal[*at..*at + record.len()] {
+                return Ok(Some(number));
+            }
+            fed.push(again);
+        }
+        Ok(None)
     }
 
     fn close(&mut self) -> Result<(), No> {
@@ -490,6 +536,7 @@ pub fn name(command: &Command) -> &'static str {
         Command::Feed(_) => "feed",
         Command::Strike(_) => "strike",
         Command::Words => "words",
+        Command::Replay => "replay",
         Command::Close => "close",
         Command::Row(_) => "row",
         Command::Steps(_) => "steps",
@@ -499,6 +546,7 @@ pub fn name(command: &Command) -> &'static str {
         Command::Segments => "segments",
         Command::Collapse(_) | Command::CollapseBuilt => "collapse",
         Command::Kept => "kept",
-        Command::Network(_) | Command::Windows(..) | Command::Minute(_) | Command::Settings(_) | Command::Poke(..) | Command::Short(..) => "",
+        Command::Network(_) | Command::Windows(..) | Command::Minute(_) | Command::Settings(_) => "",
+        Command::Poke(..) | Command::Load(_) | Command::Short(..) => "",
     }
 }

@@ -103,7 +103,7 @@ impl Comparison<'_> {
     fn route(&mut self, case: &str, from: Side, to: Side) {
         let (one, other) = (self.one.block(), self.other.block());
         if one == other {
-            self.count(what(&one, "routes"));
+            self.count(&kind(&Command::Route(from, to), &one));
         } else if !self.strict && self.other_walk(from, to, &one, &other) {
             self.count("routes: another walk of the same cost");
         } else {
@@ -120,10 +120,10 @@ impl Comparison<'_> {
         if answers_list && !(same && says(&one, " refused ")) {
             self.lists_differ = !same;
         }
-        if says(&one, " unasked") || says(&other, " unasked") {
-            self.count("unasked");
-        } else if same {
-            self.count(what(&one, plural(command)));
+        if same || says(&one, " unasked") {
+            self.count(&kind(command, &one));
+        } else if says(&other, " unasked") {
+            self.count(&kind(command, &other));
         } else if !self.strict && licence(self) {
             self.count(&format!("{}: on another walk of the same cost", plural(command)));
         } else {
@@ -158,12 +158,13 @@ impl Comparison<'_> {
     }
 }
 
-/// Refused calls are counted apart.
-fn what<'a>(block: &[&str], kind: &'a str) -> &'a str {
-    if block.first().is_some_and(|line| line.contains(" refused ")) {
-        "refused"
-    } else {
-        kind
+/// What an answer counts as: calls that are refused or not asked are counted apart, replays by what they tell.
+fn kind(command: &Command, block: &[&str]) -> String {
+    let told = block.first().and_then(|line| line.split(' ').nth(1)).unwrap_or("");
+    match (command, told) {
+        (Command::Replay, _) => format!("replays: {told}"),
+        (_, "refused" | "unasked") => told.to_string(),
+        _ => plural(command).to_string(),
     }
 }
 
@@ -177,6 +178,7 @@ fn plural(command: &Command) -> &'static str {
         Command::Close => "paths and scores",
         Command::Row(_) => "rows",
         Command::Steps(_) => "rows' steps",
+        Command::Route(..) => "routes",
         Command::Triple(_) => "triples",
         Command::Segments => "lists of segments",
         Command::Collapse(_) | Command::CollapseBuilt => "collapsed lists",

@@ -1,13 +1,13 @@
-//! generate SEED BATCH DRIVES PAIRS LISTS LARGE: writes a case text with so many drives, at least so many pairs of sides, so many lists to
-//! collapse and so many large networks. Seed and batch alone decide what is drawn.
+//! generate SEED BATCH DRIVES PAIRS LISTS LARGE REPLAYED: writes a case text with so many drives, at least so many pairs of sides, so many lists to
+//! collapse, so many large networks and so many drives that are replayed. Seed and batch alone decide what is drawn.
 
 use differential::random::Random;
-use differential::{drives, networks};
+use differential::{drives, networks, replays};
 
 fn main() {
     let numbers: Vec<u32> = std::env::args().skip(1).map(|word| word.parse().expect("a number")).collect();
-    let [seed, batch, drives, pairs, lists, large] = numbers[..] else {
-        panic!("generate SEED BATCH DRIVES PAIRS LISTS LARGE");
+    let [seed, batch, drives, pairs, lists, large, replayed] = numbers[..] else {
+        panic!("generate SEED BATCH DRIVES PAIRS LISTS LARGE REPLAYED");
     };
     let random = &mut Random::new((seed as u64) << 32 | batch as u64);
     let mut out = String::new();
@@ -24,6 +24,9 @@ fn main() {
     }
     for _ in 0..large {
         drives::large(random, &mut out);
+    }
+    for _ in 0..replayed {
+        replays::drive(random, &mut out);
     }
     print!("{out}");
 }
