@@ -16,7 +16,7 @@ use Rattle.journal.specs.declared.check.Survey.the-variants.{NotWellFormed, Wel
 use Rattle.journal.proofs.Ends.{Surveyed, survey-rows, survey-no}
 use Rattle.rows.specs.Row.{StepsAt}
 use Rattle.decoder.specs.Call.{knownRow}
-use Rattle.decoder.specs.inner.Plan.{RowsStand, knownRead}
+use Rattle.decoder.specs.inner.Plan.{knownRead}
 use Rattle.replaying.specs.Replay.{firstDiffering, replayRead, replayChecked, replaying}
 use Rattle.replaying.specs.inner.Comparing.{Replayable, Compared}
 use Rattle.replaying.specs.declared.compare.Reached.{Reached}
@@ -47,9 +47,6 @@ module _ (s : List ℕ) {n u : ℕ} {p : Predecessor} {m : ℕ} (e : survey s �
 
   rows-are : rowsIn s ≡ surveyed .rows
   rows-are = ap rowsRead (surveyed .reads)
-
-  pub rows-stand : RowsStand s n u
-  rows-stand = let v = surveyed in record { rows = v .rows; reads = v .reads; counted = v .counted; ends = v .ends }
 
   pub replay-unknown : (known : ℕ) (step : StepsAt) → knownRead known (readJournal s) ≡ false → Refused 9 ≡ replayRead none known step (readJournal s)
   replay-unknown known step h =

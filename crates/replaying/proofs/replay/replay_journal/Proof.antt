@@ -4,7 +4,8 @@ use mathlib.Core.Path.{sym, _∙_}
 use borrow.Author.Tests.{not-true, not-false}
 use borrow.Author.Needs.{needs}
 use Rattle.network.proofs.Accepted.{accepted-counts}
-use Rattle.replaying.proofs.Answers.{replay-not, rows-stand, replay-unknown, replayable, replay-clean, replay-differs, row-small}
+use Rattle.decoder.proofs.KnownRows.{rows-stand}
+use Rattle.replaying.proofs.Answers.{replay-not, replay-unknown, replayable, replay-clean, replay-differs, row-small}
 use Rattle.replaying.proofs.replay.replay_journal.Statement.{statement}
 use Rattle.replaying.proofs.replay.replay_journal.Tie as tie
 
@@ -21,7 +22,7 @@ cast-rows-known : tie.Need-cast-rows-known
 cast-rows-known c = omega (arith, accepted-counts _ (c .before .before .before .before .before .before .before .before .before .before .before .before .before .before .before .before .before .pre) .elements)
 
 rows-known-requires : tie.Need-rows-known-requires
-rows-known-requires c κs = rows-stand _ (sym (c .before .before .before .read-journal .ensures) ∙ c .before .found .given .1)
+rows-known-requires c κs = rows-stand _ _ _ _ _ (sym (c .before .before .before .read-journal .ensures) ∙ c .before .found .given .1)
 
 returns : tie.Need-returns
 returns c = replay-unknown _ (sym (c .before .before .before .before .before .read-journal .ensures) ∙ c .before .before .before .found .given .1) _ _ (sym (c .before .rows-known .ensures) ∙ not-true _ (c .if1 .taken))
