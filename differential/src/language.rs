@@ -149,7 +149,7 @@ pub struct Words<'a> {
 }
 
 /// The most words of a journal that are taken in.
-const MOST_WORDS: u32 = 400_000;
+const MOST_WORDS: u32 = 700_000;
 
 const SLICES: &str = "lengths headings flags from to from_side to_side forward backward elements intrinsics near raw_logs distances \
                       answer decisions window_counts window_firsts window_lasts";

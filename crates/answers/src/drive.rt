@@ -26,6 +26,7 @@ use crate::host::release;
 use crate::host::settings_of;
 use crate::host::with_cursor;
 use crate::host::with_out;
+use crate::memory::MOST_WORDS;
 use crate::parts::lend_numbers;
 use crate::parts::wide;
 use crate::print::Output;
@@ -73,7 +74,7 @@ fn fill_words(journal: &mut [u32]) {
 
 // A journal of so many words, each FFFFFFFF, then opened.
 pub fn answer_journal(text: &[u8], h: Host, journal: &mut [u32], out: &mut Output) -> Host {
-    let n = take_count(text, h.cursor, 400000);
+    let n = take_count(text, h.cursor, MOST_WORDS);
     let c = n.cursor;
     let mut r = with_cursor(h, c);
     if c.bad {

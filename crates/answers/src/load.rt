@@ -4,6 +4,7 @@ use crate::line::Line;
 use crate::line::with_host;
 use crate::line::with_more;
 use crate::line::words_of;
+use crate::memory::MOST_WORDS;
 use crate::parts::lend_numbers;
 use crate::parts::put_number;
 use crate::parts::wide;
@@ -47,6 +48,6 @@ pub fn load(line: Line, text: &mut [u8], count: TakenNumber, journal: &mut [u32]
 
 // The same from behind the word `load`, with as many words as a journal of the case language has.
 pub fn answer_load(line: Line, text: &mut [u8], journal: &mut [u32]) -> Line {
-    let count = take_load(line, text, 400000);
+    let count = take_load(line, text, MOST_WORDS);
     load(line, text, count, journal)
 }

@@ -9,8 +9,10 @@ use crate::host::WHOLE;
 use crate::print::OUTPUT_BYTES;
 use crate::print::Output;
 
-// The most words that a journal has.
-const JOURNAL_WORDS: usize = 400000;
+// The most words that a journal has, so that 10,000 rows of 4 candidates fit, which take 65 words each.
+const JOURNAL_WORDS: usize = 700000;
+
+pub const MOST_WORDS: u32 = 700000;
 
 pub type Journal = [u32; JOURNAL_WORDS];
 

@@ -21,7 +21,7 @@ use closing::close::close;
 use text::list::first_numbers;
 
 // More than the pairs of the longest path: a row of it takes 12 words of the journal or more.
-const STATES: usize = 40000;
+const STATES: usize = 60000;
 
 fn print_pair(out: &mut Output, start: usize, row: u32, candidate: u32) -> usize {
     let named = print_bytes(out, start, b"at");

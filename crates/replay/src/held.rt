@@ -12,10 +12,10 @@ use text::cursor::TakenNumber;
 use text::cursor::refuse;
 use text::list::first_numbers;
 
-// How many words are taken in: 65,535 rows of 4 candidates have 4,259,744. Up to 400,000 stand in an array of that length, which a usual stack holds.
+// How many words are taken in: 65,535 rows of 4 candidates have 4,259,744. Up to 700,000 stand in an array of that length, which a usual stack holds.
 pub const MOST_WORDS: u32 = 4300000;
 
-pub const SHORT: u32 = 400000;
+pub const SHORT: u32 = 700000;
 
 const LONG_WORDS: usize = 4300000;
 
