@@ -1,0 +1,161 @@
+"""One page of a drive, without anything from outside; or its rows and segments alone, as a drawing."""
+
+from html import escape
+from pathlib import Path
+
+from picture import bands, chart
+from picture.layout import SHADES, axis_of
+from picture.marks import exact, number
+from picture.network_chart import network_drawing, not_drawn
+from picture.network_layout import plan
+from picture.segments import elements_on_path, relations_on_path
+
+FOLDER = Path(__file__).resolve().parent
+JUMPS = 20  # links to places of a long drive
+MOST_REFUSALS = 1000  # that are listed
+
+DEFINITIONS = """<defs>
+<pattern id="stripes" width="10" height="52" y="24" patternUnits="userSpaceOnUse"><rect width="10" height="26" fill="#f3f6f9"/></pattern>
+<pattern id="no-candidates" width="8" height="8" patternUnits="userSpaceOnUse" patternTransform="rotate(45)"><rect width="8" height="8" fill="#dfe3e7"/><rect width="3" height="8" fill="#c9ced4"/></pattern>
+<pattern id="bridge" width="6" height="6" patternUnits="userSpaceOnUse" patternTransform="rotate(45)"><rect width="6" height="6" fill="#fff"/><rect width="2" height="6" fill="#8aa4bd"/></pattern>
+<marker id="arrow" viewBox="0 0 10 10" refX="9" refY="5" markerWidth="9" markerHeight="9" markerUnits="userSpaceOnUse" orient="auto-start-reverse"><path d="M0 0L10 5L0 10z" style="stroke:none;fill:#33475b"/></marker>
+</defs>"""
+
+
+def css(name):
+    return (FOLDER / name).read_text(encoding="utf-8")
+
+
+def counted(count, noun):
+    return "%s %s%s" % (format(count, ","), noun, "" if count == 1 else "s")
+
+
+def summary(drive):
+    """The drive in a sentence or two."""
+    rows = drive.rows
+    if not rows:
+        return "There is nothing to draw." if drive.unanswered else "No row stands."
+    empty = sum(not row.candidates for row in rows)
+    words = ["%s, minutes %d to %d" % (counted(len(rows), "row"), rows[0].minute, rows[-1].minute)]
+    words += ["%s without candidates" % format(empty, ",")] if empty else []
+    words += ["%s broken" % format(len(drive.broken), ",")] if drive.broken else []
+    path = "No row scores: there is no path." if drive.score is None else "The best path scores %s." % exact(drive.score)
+    built = " It has %s, %s after collapsing." % (counted(len(drive.segments), "segment"), format(len(drive.collapsed), ",")) if drive.segments else ""
+    return ", ".join(words) + ". " + path + built
+
+
+def strip(name, names, drawing):
+    return '<div class="strip %s">%s%s</div>' % (name, names, drawing)
+
+
+def key(drawing, words, width=22):
+    return '<li><svg width="%d" height="16" viewBox="0 0 %d 16">%s</svg>%s</li>' % (width, width, drawing, words)
+
+
+def legend():
+    """What the marks of the drive mean."""
+    words = ["the row's best score"] + ["up to %g below" % limit for limit in SHADES[1:]] + ["more below", "no score"]
+    dots = [key('<circle class="d%d" cx="11" cy="8" r="5"/>' % k, text) for k, text in enumerate(words)]
+    others = [
+        key('<path class="path" d="M2 8H20"/>', "best path"),
+        key('<path class="path over" d="M2 8H20"/>', "over a gap"),
+        key('<rect class="gap" width="22" height="16"/>', "no candidates"),
+        key('<g class="silent"><rect class="column" width="22" height="16"/></g>', "no candidate scores"),
+        key('<path class="cross" d="M6 3l10 10m0 -10l-10 10"/>', "broken row"),
+        key('<path class="link" d="M2 14C4 3 18 3 20 14"/>', "where scores came from, over a gap"),
+        key('<g class="bar"><rect x="1" y="2" width="20" height="12" rx="3"/></g>', "segment"),
+        key('<g class="bar bridge"><rect x="1" y="2" width="20" height="12" rx="3"/></g>', "bridge"),
+        key('<g class="bar taken"><rect x="1" y="2" width="20" height="12" rx="3"/><path d="M0 8h22"/></g>', "taken out by collapsing"),
+    ]
+    return '<ul class="legend">%s</ul>' % "".join(dots + others)
+
+
+def jumps(drive):
+    """Links to places of a long drive, and to its broken rows."""
+    step = -(-len(drive.rows) // JUMPS)
+    standing = [row.number for row in drive.rows if row.candidates]
+    places = sorted({min(standing, key=lambda row: abs(row - k)) for k in range(0, len(drive.rows), step)}) if standing and step > 1 else []
+    lists = [("Rows:", places), ("Broken rows:", sorted(drive.broken)[: 2 * JUMPS])]
+    told = ['<p class="jumps">%s %s</p>' % (name, " ".join('<a href="#row-%d">%d</a>' % (row, row) for row in rows)) for name, rows in lists if rows]
+    return "".join(told)
+
+
+def pane(drive):
+    axis = axis_of(drive.rows)
+    strips = strip("head", chart.axis_names(), chart.axis_strip(drive, axis)) + strip("body", chart.lane_names(axis), chart.lane_strip(drive, axis))
+    if drive.segments:
+        strips += strip("foot", bands.band_names(drive), bands.band_strip(drive, axis))
+    return '<div class="pane" tabindex="0" aria-label="the drive">%s</div>' % strips
+
+
+def unanswered(drive):
+    """What `cases` would not tell of the journal at the file's end."""
+    return "".join('<p class="said">%s at the end of the file was refused with %d: %s.</p>' % (one.what, one.number, one.meaning) for one in drive.unanswered)
+
+
+def drive_section(drive):
+    hint = "<p>Point at a row to see the parents of its candidates and the row that its scores came from, and at any mark for its numbers.</p>"
+    shown = legend() + hint + jumps(drive) + pane(drive) if drive.rows else ""
+    return '<h2 id="drive">The drive</h2>' + unanswered(drive) + shown
+
+
+def decision_section(drive):
+    if not drive.segments:
+        return ""
+    told = "".join("<li>%s</li>" % bands.decision_words(one) for one in drive.decisions)
+    return '<h2 id="decisions">What collapsing decided</h2>' + ("<ol>%s</ol>" % told if told else "<p>Nothing: every segment is left.</p>")
+
+
+def network_section(drive):
+    network = drive.network
+    heading = '<h2 id="network">The network</h2>'
+    if not network.lengths:
+        return heading + "<p>It has no elements.</p>"
+    made = plan(network)
+    drawing = network_drawing(network, made, elements_on_path(drive), relations_on_path(drive))
+    words = "Sides are numbered at the edges of each box; arrows show which way one may pass; what the best path uses is drawn strong."
+    if any(relation.windows for relation in network.relations):
+        words += " A relation that is shut 5-9 is so from minute 5 on, and open again at 9."
+    others = "".join("<li>%s</li>" % words for words in not_drawn(network))
+    told = "<p>Not drawn, since they name an element or a side that there is not:</p><ul>%s</ul>" % others if others else ""
+    return '%s<p>%s <span class="plan">%s</span></p><div class="pane">%s</div>%s' % (heading, words, made.said, drawing, told)
+
+
+def refusal_section(drive):
+    heading = '<h2 id="refused">What was refused</h2>'
+    if not drive.refusals:
+        return heading + "<p>Nothing.</p>"
+    shown = drive.refusals[:MOST_REFUSALS]
+    rows = "".join("<tr><td>%d</td><td>%s</td><td>%d</td><td>%s</td></tr>" % (one.line, escape(one.what), one.number, one.meaning) for one in shown)
+    more = len(drive.refusals) - len(shown)
+    rest = "<p>And %s.</p>" % counted(more, "further refusal") if more else ""
+    return "%s<table><tr><th>Line</th><th>What</th><th>Number</th><th>Why</th></tr>%s</table>%s" % (heading, rows, rest)
+
+
+def page(drive, name):
+    """The whole page of the drive in a file of this name."""
+    sections = [drive_section(drive), decision_section(drive), network_section(drive), refusal_section(drive)]
+    links = [("drive", "Drive"), ("decisions", "Collapsing"), ("network", "Network"), ("refused", "Refused (%d)" % len(drive.refusals))]
+    contents = "".join('<a href="#%s">%s</a>' % link for link in links if 'id="%s"' % link[0] in "".join(sections))
+    head = '<meta charset="utf-8"><meta name="viewport" content="width=device-width, initial-scale=1"><title>%s</title>' % escape(name)
+    style = "<style>%s%s</style>" % (css("style.css"), css("page.css"))
+    definitions = '<svg class="defs" aria-hidden="true">%s</svg>' % DEFINITIONS
+    top = "<h1>%s</h1><p>%s</p><nav>%s</nav>" % (escape(name), summary(drive), contents)
+    foot = '<p class="plan">Drawn from the answers of <code>cases</code>.</p>'
+    return "<!DOCTYPE html>\n<html lang=\"en\"><head>%s%s</head>\n<body>%s%s%s%s</body></html>\n" % (head, style, definitions, top, "\n".join(sections), foot)
+
+
+def drawing(drive):
+    """Rows and segments alone, as an SVG file."""
+    axis = axis_of(drive.rows)
+    strips = [(chart.axis_names(), chart.axis_strip(drive, axis), chart.AXIS), (chart.lane_names(axis), chart.lane_strip(drive, axis), axis.height)]
+    if drive.segments:
+        strips.append((bands.band_names(drive), bands.band_strip(drive, axis), bands.total_height(drive)))
+    y, parts = 8, []
+    for names, marks, height in strips:
+        parts.append('<g transform="translate(8 %s)">%s<g transform="translate(%d 0)">%s</g></g>' % (number(y), names, chart.LABELS, marks))
+        y += height
+    width, height = axis.width + chart.LABELS + 24, y + 8
+    size = 'width="%s" height="%s" viewBox="0 0 %s %s"' % ((number(width), number(height)) * 2)
+    ground = '<rect width="%s" height="%s" fill="#fff"/>' % (number(width), number(height))
+    return '<svg xmlns="http://www.w3.org/2000/svg" %s><style>%s</style>%s%s%s</svg>\n' % (size, css("style.css"), DEFINITIONS, ground, "".join(parts))
