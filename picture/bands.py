@@ -1,7 +1,7 @@
 """Draws the segments of the best path below the rows, before and after collapsing, and says in words what collapsing decided."""
 
 from picture.chart import LABELS, rows_in_words
-from picture.marks import exact, number, svg, title
+from picture.marks import counted, exact, number, svg, title
 from picture.segments import STACKED, bars_after, bars_before, stack_height, stacks
 
 BAR = 20  # pixels
@@ -100,6 +100,5 @@ def decision_words(decision):
     """A decision of collapsing as a sentence."""
     if not decision.removed:
         return "Element %d: two segments next to each other became one." % decision.element
-    span = "1 row" if decision.span == 1 else "%d rows" % decision.span
     many = "element" if len(decision.removed) == 1 else "elements"
-    return "Element %d goes on over a span of %s; removed between: %s %s." % (decision.element, span, many, listed(decision.removed))
+    return "Element %d goes on over a span of %s; removed between: %s %s." % (decision.element, counted(decision.span, "row"), many, listed(decision.removed))

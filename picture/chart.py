@@ -1,7 +1,7 @@
 """Draws the rows of a drive: axis, lanes, dots, best path, gaps and broken rows, and what is shown of a row that one points at."""
 
 from picture.layout import LANE, TOP, gaps, is_over_gap, label_step, parent_lines, path_steps, shade
-from picture.marks import exact, line, number, svg, title
+from picture.marks import counted, exact, line, number, svg, title
 
 BLOCK = 100  # rows in one drawing: a browser passes over those that are out of sight
 AXIS = 40
@@ -73,12 +73,11 @@ def dot_words(drive, row, candidate):
 
 
 def row_words(drive, row):
-    many = "1 candidate" if len(row.candidates) == 1 else "%d candidates" % len(row.candidates)
     come = "the first row that scores" if row.predecessor is None else "scores came from row %d" % row.predecessor
     if not row.scores:
         come = "no candidate has a score"
     broken = "broken: no step leads to it from row %d" % row.predecessor if row.number in drive.broken else ""
-    return title("row %d, minute %d" % (row.number, row.minute), many, come, broken, place(drive, row.number))
+    return title("row %d, minute %d" % (row.number, row.minute), counted(len(row.candidates), "candidate"), come, broken, place(drive, row.number))
 
 
 def row_kind(drive, row):

@@ -4,9 +4,9 @@ import struct
 from typing import NamedTuple
 
 # How many words stand behind a keyword. Those whose number depends on the first of them are in `operand_count`.
-OPERANDS = dict(
-    settings=2, minute=1, journal=1, open=0, strike=1, poke=2, short=2, words=0, close=0, row=1, steps=1, route=4, routes=0, triple=3, segments=0, kept=0, replay=0
-)
+OPERANDS = dict.fromkeys(("open", "words", "close", "routes", "segments", "kept", "replay"), 0)
+OPERANDS.update(dict.fromkeys(("minute", "journal", "strike", "row", "steps"), 1))
+OPERANDS.update(settings=2, poke=2, short=2, triple=3, route=4)
 
 
 class Command(NamedTuple):
@@ -16,7 +16,7 @@ class Command(NamedTuple):
 
 
 class Relation(NamedTuple):
-    """Forward from `start` to `end`, backward the other way, through these sides; `windows` are its pairs of minutes, shut from the first to before the last."""
+    """Forward from `start` to `end`, backward the other way, through these sides. It is shut from the first minute of each window on, and open at its last."""
 
     start: int
     end: int

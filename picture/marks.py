@@ -8,6 +8,10 @@ def number(value):
     return "%g" % round(value, 1)
 
 
+def counted(count, noun):
+    return "%s %s%s" % (format(count, ","), noun, "" if count == 1 else "s")
+
+
 def exact(value):
     """A float as the shortest decimal that reads back to the same bits."""
     return repr(value).replace("inf", "infinity")

@@ -5,7 +5,7 @@ import subprocess
 from typing import NamedTuple
 
 WIDTH, HEIGHT = 92, 40  # of an element's box, in pixels
-APART = 70  # between two columns, by the plain rule
+APART = 110  # between two columns, by the plain rule
 SECONDS = 4  # that graphviz may take
 
 

@@ -4,8 +4,8 @@ from html import escape
 from pathlib import Path
 
 from picture import bands, chart
-from picture.layout import SHADES, axis_of
-from picture.marks import exact, number
+from picture.layout import LANE, SHADES, TOP, axis_of
+from picture.marks import counted, exact, number
 from picture.network_chart import network_drawing, not_drawn
 from picture.network_layout import plan
 from picture.segments import elements_on_path, relations_on_path
@@ -14,20 +14,21 @@ FOLDER = Path(__file__).resolve().parent
 JUMPS = 20  # links to places of a long drive
 MOST_REFUSALS = 1000  # that are listed
 
-DEFINITIONS = """<defs>
-<pattern id="stripes" width="10" height="52" y="24" patternUnits="userSpaceOnUse"><rect width="10" height="26" fill="#f3f6f9"/></pattern>
-<pattern id="no-candidates" width="8" height="8" patternUnits="userSpaceOnUse" patternTransform="rotate(45)"><rect width="8" height="8" fill="#dfe3e7"/><rect width="3" height="8" fill="#c9ced4"/></pattern>
-<pattern id="bridge" width="6" height="6" patternUnits="userSpaceOnUse" patternTransform="rotate(45)"><rect width="6" height="6" fill="#fff"/><rect width="2" height="6" fill="#8aa4bd"/></pattern>
-<marker id="arrow" viewBox="0 0 10 10" refX="9" refY="5" markerWidth="9" markerHeight="9" markerUnits="userSpaceOnUse" orient="auto-start-reverse"><path d="M0 0L10 5L0 10z" style="stroke:none;fill:#33475b"/></marker>
-</defs>"""
+STRIPE = '<pattern id="stripes" width="10" height="%d" y="%d" patternUnits="userSpaceOnUse"><rect width="10" height="%d" fill="#f3f6f9"/></pattern>'
+HATCH = (
+    '<pattern id="%s" width="%d" height="8" patternUnits="userSpaceOnUse" patternTransform="rotate(45)">'
+    '<rect width="%d" height="8" fill="%s"/><rect width="%d" height="8" fill="%s"/></pattern>'
+)
+ARROW = (
+    '<marker id="arrow" viewBox="0 0 10 10" refX="9" refY="5" markerWidth="9" markerHeight="9" markerUnits="userSpaceOnUse" orient="auto-start-reverse">'
+    '<path d="M0 0L10 5L0 10z" style="stroke:none;fill:#33475b"/></marker>'
+)
+HATCHES = HATCH % ("no-candidates", 8, 8, "#dfe3e7", 3, "#c9ced4") + HATCH % ("bridge", 6, 6, "#fff", 2, "#8aa4bd")
+DEFINITIONS = "<defs>%s%s%s</defs>" % (STRIPE % (2 * LANE, TOP, LANE), HATCHES, ARROW)
 
 
 def css(name):
     return (FOLDER / name).read_text(encoding="utf-8")
-
-
-def counted(count, noun):
-    return "%s %s%s" % (format(count, ","), noun, "" if count == 1 else "s")
 
 
 def summary(drive):
@@ -75,9 +76,16 @@ def jumps(drive):
     step = -(-len(drive.rows) // JUMPS)
     standing = [row.number for row in drive.rows if row.candidates]
     places = sorted({min(standing, key=lambda row: abs(row - k)) for k in range(0, len(drive.rows), step)}) if standing and step > 1 else []
-    lists = [("Rows:", places), ("Broken rows:", sorted(drive.broken)[: 2 * JUMPS])]
-    told = ['<p class="jumps">%s %s</p>' % (name, " ".join('<a href="#row-%d">%d</a>' % (row, row) for row in rows)) for name, rows in lists if rows]
-    return "".join(told)
+    return links("Rows", places) + links("Broken rows", sorted(drive.broken))
+
+
+def links(name, rows):
+    """Links to rows, the first of them where there are many."""
+    if not rows:
+        return ""
+    shown = rows[: 2 * JUMPS]
+    more = " and %s more" % format(len(rows) - len(shown), ",") if len(rows) > len(shown) else ""
+    return '<p class="jumps">%s: %s%s</p>' % (name, " ".join('<a href="#row-%d">%d</a>' % (row, row) for row in shown), more)
 
 
 def pane(drive):
@@ -95,22 +103,18 @@ def unanswered(drive):
 
 def drive_section(drive):
     hint = "<p>Point at a row to see the parents of its candidates and the row that its scores came from, and at any mark for its numbers.</p>"
-    shown = legend() + hint + jumps(drive) + pane(drive) if drive.rows else ""
-    return '<h2 id="drive">The drive</h2>' + unanswered(drive) + shown
+    return unanswered(drive) + (legend() + hint + jumps(drive) + pane(drive) if drive.rows else "")
 
 
 def decision_section(drive):
-    if not drive.segments:
-        return ""
     told = "".join("<li>%s</li>" % bands.decision_words(one) for one in drive.decisions)
-    return '<h2 id="decisions">What collapsing decided</h2>' + ("<ol>%s</ol>" % told if told else "<p>Nothing: every segment is left.</p>")
+    return "<ol>%s</ol>" % told if told else "<p>Nothing: every segment is left.</p>"
 
 
 def network_section(drive):
     network = drive.network
-    heading = '<h2 id="network">The network</h2>'
     if not network.lengths:
-        return heading + "<p>It has no elements.</p>"
+        return "<p>It has no elements.</p>"
     made = plan(network)
     drawing = network_drawing(network, made, elements_on_path(drive), relations_on_path(drive))
     words = "Sides are numbered at the edges of each box; arrows show which way one may pass; what the best path uses is drawn strong."
@@ -118,31 +122,39 @@ def network_section(drive):
         words += " A relation that is shut 5-9 is so from minute 5 on, and open again at 9."
     others = "".join("<li>%s</li>" % words for words in not_drawn(network))
     told = "<p>Not drawn, since they name an element or a side that there is not:</p><ul>%s</ul>" % others if others else ""
-    return '%s<p>%s <span class="plan">%s</span></p><div class="pane">%s</div>%s' % (heading, words, made.said, drawing, told)
+    return '<p>%s <span class="plan">%s</span></p><div class="pane">%s</div>%s' % (words, made.said, drawing, told)
 
 
 def refusal_section(drive):
-    heading = '<h2 id="refused">What was refused</h2>'
     if not drive.refusals:
-        return heading + "<p>Nothing.</p>"
+        return "<p>Nothing.</p>"
     shown = drive.refusals[:MOST_REFUSALS]
     rows = "".join("<tr><td>%d</td><td>%s</td><td>%d</td><td>%s</td></tr>" % (one.line, escape(one.what), one.number, one.meaning) for one in shown)
     more = len(drive.refusals) - len(shown)
     rest = "<p>And %s.</p>" % counted(more, "further refusal") if more else ""
-    return "%s<table><tr><th>Line</th><th>What</th><th>Number</th><th>Why</th></tr>%s</table>%s" % (heading, rows, rest)
+    return "<table><tr><th>Line</th><th>What</th><th>Number</th><th>Why</th></tr>%s</table>%s" % (rows, rest)
+
+
+def sections(drive):
+    """Anchor, link, heading and content of each section."""
+    yield "drive", "Drive", "The drive", drive_section(drive)
+    if drive.segments:
+        yield "decisions", "Collapsing", "What collapsing decided", decision_section(drive)
+    yield "network", "Network", "The network", network_section(drive)
+    yield "refused", "Refused (%d)" % len(drive.refusals), "What was refused", refusal_section(drive)
 
 
 def page(drive, name):
     """The whole page of the drive in a file of this name."""
-    sections = [drive_section(drive), decision_section(drive), network_section(drive), refusal_section(drive)]
-    links = [("drive", "Drive"), ("decisions", "Collapsing"), ("network", "Network"), ("refused", "Refused (%d)" % len(drive.refusals))]
-    contents = "".join('<a href="#%s">%s</a>' % link for link in links if 'id="%s"' % link[0] in "".join(sections))
+    made = list(sections(drive))
+    contents = "".join('<a href="#%s">%s</a>' % (key, label) for key, label, _, _ in made)
+    body = "\n".join('<h2 id="%s">%s</h2>%s' % (key, heading, content) for key, _, heading, content in made)
     head = '<meta charset="utf-8"><meta name="viewport" content="width=device-width, initial-scale=1"><title>%s</title>' % escape(name)
     style = "<style>%s%s</style>" % (css("style.css"), css("page.css"))
     definitions = '<svg class="defs" aria-hidden="true">%s</svg>' % DEFINITIONS
     top = "<h1>%s</h1><p>%s</p><nav>%s</nav>" % (escape(name), summary(drive), contents)
     foot = '<p class="plan">Drawn from the answers of <code>cases</code>.</p>'
-    return "<!DOCTYPE html>\n<html lang=\"en\"><head>%s%s</head>\n<body>%s%s%s%s</body></html>\n" % (head, style, definitions, top, "\n".join(sections), foot)
+    return '<!DOCTYPE html>\n<html lang="en"><head>%s%s</head>\n<body>%s%s\n%s%s</body></html>\n' % (head, style, definitions, top, body, foot)
 
 
 def drawing(drive):

@@ -2,6 +2,8 @@
 
 from typing import NamedTuple
 
+from picture.marks import counted
+
 MEANINGS = {
     1: "a count is over its limit, or slices that belong together have unequal counts",
     2: "an element's length is out of range",
@@ -31,10 +33,6 @@ class Refusal(NamedTuple):
     @property
     def meaning(self):
         return MEANINGS.get(self.number, "a number that this picture has no words for")
-
-
-def counted(number, noun):
-    return "%d %s%s" % (number, noun, "" if number == 1 else "s")
 
 
 def in_words(command):

@@ -54,7 +54,8 @@ class Answers(unittest.TestCase):
         """A command that answers nothing has no answer; `routes` has one for each pair of sides."""
         commands = commands_of(b"network 1 0 1 0 0 0 0 1 routes minute 3 journal 5 open")
         answers = answers_of(["route none"] * 4 + ["open ok", "open refused 12"])
-        self.assertEqual([(command.keyword, len(found)) for command, found in answered(commands, answers)], [("network", 0), ("routes", 4), ("minute", 0), ("journal", 1), ("open", 1)])
+        found = [(command.keyword, len(answers)) for command, answers in answered(commands, answers)]
+        self.assertEqual(found, [("network", 0), ("routes", 4), ("minute", 0), ("journal", 1), ("open", 1)])
 
 
 class Journal(unittest.TestCase):

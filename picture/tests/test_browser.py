@@ -12,10 +12,14 @@ HELPERS = """
 const box = e => e.getBoundingClientRect();
 const show = e => { e.scrollIntoView({block: 'center', inline: 'center'}); return box(e); };
 const isOnTop = e => { const r = show(e), hit = document.elementFromPoint(r.x + r.width / 2, r.y + r.height / 2); return hit !== null && e.contains(hit); };
-const isPainted = e => { const r = show(e), s = getComputedStyle(e); return r.width + r.height > 0 && s.visibility == 'visible' && s.display != 'none' && s.opacity > 0; };
+const isShown = s => s.visibility == 'visible' && s.display != 'none' && s.opacity > 0;
+const isPainted = e => { const r = show(e); return r.width + r.height > 0 && isShown(getComputedStyle(e)); };
 const all = (selector, test) => [...document.querySelectorAll(selector)].map(test);
 const words = selector => all(selector, e => e.textContent);
 const column = row => box(document.querySelector('#row-' + row).closest('.row').querySelector('.column'));
+const middle = row => column(row).x + column(row).width / 2;
+const spans = (e, from, to) => box(e).x == middle(from) && box(e).right == middle(to);
+const isInPane = e => { const r = box(e), p = box(e.closest('.pane')); return r.x > p.x + 96 && r.right < p.right && r.y > 0 && r.bottom < innerHeight; };
 """
 
 
@@ -49,7 +53,7 @@ class Page(unittest.TestCase):
             self.check("words('.body .names text')", ["scores from"] + ["element %d" % k for k in (0, 1, 2, 4, 5)])
             self.check("words('.axis text:not(.minute)')", [str(k) for k in range(16)])
             self.check("all('.body circle', isOnTop)", [True] * 23)
-            self.check("all('.gap:not(.legend *)', isOnTop)", [True])
+            self.check("all('.body .gap', isOnTop)", [True])
             self.check("all('.body .path', e => e.classList[1])", ["step", "over", "broken"])
             self.check("all('.body .path, .body .cross, .body .link', isPainted)", [True] * 5)
             self.check("all('.body .broken .column', e => box(e).x == column(15).x)", [True])
@@ -80,7 +84,8 @@ class Page(unittest.TestCase):
     def test_titles(self):
         """Each mark has a title with its numbers."""
         self.opened(WIDE)
-        self.check("all('.body circle, .column:not(.legend *), .gap:not(.legend *), .bands .bar, .element, .relation, .body .link', e => !!e.querySelector(':scope > title')).every(x => x)", True)
+        marks = ".body circle, .body .column, .body .gap, .body .link, .bands .bar, .element, .relation"
+        self.check("all('%s', e => e.querySelector(':scope > title') !== null)" % marks, [True] * (23 + 14 + 1 + 1 + 14 + 6 + 5))
         dot = ["row 6, minute 6", "element 1 at intrinsic 0.75", "raw log -0.3"]
         title = self.browser.value("document.querySelector('#row-6 title').textContent").split("\n")
         self.assertEqual(title[:3], dot)
@@ -96,12 +101,12 @@ class Page(unittest.TestCase):
         self.check("all('.origin', e => getComputedStyle(e).visibility).filter(x => x != 'hidden').length", 1)
         self.check("(o => o.querySelector('text').textContent)(document.querySelector('.row:hover .origin'))", "row 3")
         self.check("(o => box(o.querySelector('rect')).x == column(3).x)(document.querySelector('.row:hover .origin'))", True)
-        self.check("(p => [p.x, p.right])(box(document.querySelector('.row:hover .origin path')))", self.browser.value("[3, 6].map(k => column(k).x + column(k).width / 2)"))
+        self.check("spans(document.querySelector('.row:hover .origin path'), 3, 6)", True)
 
     def test_tunnel(self):
         """A visible link crosses the tunnel, from row 3 to row 6, whether one points at it or not."""
         self.opened(WIDE)
-        self.check("(p => [p.x, p.right])(box(document.querySelector('.body .link')))", self.browser.value("[3, 6].map(k => column(k).x + column(k).width / 2)"))
+        self.check("spans(document.querySelector('.body .link'), 3, 6)", True)
 
     def test_segments(self):
         """Segments before and after collapsing, on the axis of the rows; bridges hatched, those taken out struck through; the decision in words."""
@@ -128,13 +133,14 @@ class Page(unittest.TestCase):
     def test_refusals(self):
         """What was refused: line, call, number and reason."""
         self.opened(NARROW)
-        self.check("all('#refused + table tr', e => [...e.cells].slice(0, 3).map(c => c.textContent).join('|')).slice(1)", ["40|strike of 9 rows|13", "60|feed of 1 candidate and 1 distance|17"])
+        rows = self.browser.value("all('#refused + table tr', e => [...e.cells].map(c => c.textContent))")
+        self.assertEqual([cells[:3] for cells in rows[1:]], [["40", "strike of 9 rows", "13"], ["60", "feed of 1 candidate and 1 distance", "17"]])
         self.check("all('#refused + table td', isPainted).every(x => x)", True)
 
     def test_jump(self):
         """A link leads to a row that is out of sight."""
         self.opened(NARROW)
-        seen = "(r => { const p = box(document.querySelector('.pane')); return r.x > p.x + 96 && r.right < p.right && r.y > 0 && r.bottom < innerHeight; })(box(document.querySelector('#row-15')))"
+        seen = "isInPane(document.querySelector('#row-15'))"
         self.check(seen, False)
         self.browser.value("document.querySelector('.jumps a[href=\"#row-15\"]').click()")
         self.check("new Promise(done => setTimeout(done, 100)).then(() => %s)" % seen, True)

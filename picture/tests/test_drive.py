@@ -16,7 +16,8 @@ class Calls(unittest.TestCase):
     def test_lines_of_rows(self):
         """Each standing row has the line of its fix: those struck and refused have none, and opening begins anew."""
         text = b"journal 50\nfeed 0 0\nopen\nfeed 0 0\nfeed 0 0\nstrike 1\nfeed 0 0\nfeed 0 0\nstrike 9\n"
-        self.assertEqual(lines_of_rows(calls(text, "open ok; feed ok; open ok; feed ok; feed ok; strike ok; feed refused 17; feed ok; strike refused 13")), [4, 8])
+        answers = "open ok; feed ok; open ok; feed ok; feed ok; strike ok; feed refused 17; feed ok; strike refused 13"
+        self.assertEqual(lines_of_rows(calls(text, answers)), [4, 8])
 
     def test_lines_are_not_known(self):
         """A journal that was loaded or changed word by word tells no lines."""
@@ -27,7 +28,8 @@ class Calls(unittest.TestCase):
         found = refusals_of(calls(b"journal 0\nfeed 1 1 0 0.5 1 -1 3\n\nstrike 1\nclose", "open refused 12; feed refused 10; strike refused 13; close none"), 0)
         self.assertEqual([one.line for one in found], [1, 2, 4])
         self.assertEqual([one.what for one in found], ["opening a journal of 0 words", "feed of 1 candidate and 1 distance", "strike of 1 row"])
-        self.assertEqual([(one.number, one.meaning.split(",")[0]) for one in found[1:]], [(10, "the wrong number of distances"), (13, "more rows to strike than stand")])
+        self.assertEqual([one.number for one in found], [12, 10, 13])
+        self.assertIn("number of distances", found[1].meaning)
 
 
 class Asking(unittest.TestCase):
@@ -53,7 +55,8 @@ class Asking(unittest.TestCase):
 
     def test_refused_journal(self):
         """A journal that is not well formed has no rows, and segments that are refused are not collapsed."""
-        _, drive = self.asked(b"journal 9", ["open ok", "close refused 7", "words 1", "50000002", "segments refused 7", "collapse 1 0", "segment 0 0000000000000000 0000000000000000 0 0"])
+        held = ["collapse 1 0", "segment 0 0000000000000000 0000000000000000 0 0"]
+        _, drive = self.asked(b"journal 9", ["open ok", "close refused 7", "words 1", "50000002", "segments refused 7"] + held)
         self.assertEqual((drive.rows, drive.path, drive.collapsed, [one.number for one in drive.unanswered]), ([], [], [], [7, 7]))
 
 

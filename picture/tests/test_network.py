@@ -9,7 +9,8 @@ from picture.network_layout import HEIGHT, WIDTH, by_graphviz, by_rule, columns,
 from picture.tests.examples import line_of, relation
 
 # A line of 0 to 3; 2 hangs beside it by a relation that names side 0 first; 5 stands alone; the last two name what there is not.
-YARD = Network([100.0] * 6, [relation(0, 1), relation(1, 3, (5, 9), (20, 30)), relation(2, 0, sides=(0, 1)), relation(3, 4), relation(0, 9), relation(0, 1, sides=(2, 0))])
+JOINS = [relation(0, 1), relation(1, 3, (5, 9), (20, 30)), relation(2, 0, sides=(0, 1)), relation(3, 4)]
+YARD = Network([100.0] * 6, JOINS + [relation(0, 9), relation(0, 1, sides=(2, 0))])
 
 
 def overlapping(boxes):

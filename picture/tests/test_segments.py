@@ -18,7 +18,7 @@ class Bars(unittest.TestCase):
         """What collapsing took out belongs to the segment before it that is left."""
         bars = bars_before(BEFORE, AFTER)
         self.assertEqual([bar.taken_by for bar in bars], [None, None] + [AFTER[1]] * 4 + [None, None])
-        self.assertEqual(bars_after(bars, AFTER), [Bar(AFTER[0], False, None), Bar(AFTER[1], False, None), Bar(AFTER[2], True, None), Bar(AFTER[3], False, None)])
+        self.assertEqual(bars_after(bars, AFTER), [Bar(one, k == 2, None) for k, one in enumerate(AFTER)])
 
     def test_nothing_taken_out(self):
         """Where collapsing changed nothing every bar is left."""
