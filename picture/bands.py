@@ -21,10 +21,11 @@ def bar_words(bar):
     """The numbers of a segment, and what became of it."""
     one = bar.segment
     rows = rows_in_words(one.first, one.last)
-    where = "bridge behind %s" % rows if bar.is_bridge else rows
+    where = "bridge behind row %d" % one.first if bar.is_bridge else rows
+    on = "joined with later ones, up to row %d" % one.last if bar.is_bridge and one.first < one.last else ""
     taken = bar.taken_by
     gone = "taken out by collapsing: element %d has %s now" % (taken.element, rows_in_words(taken.first, taken.last)) if taken else ""
-    return title("element %d, %s" % (one.element, where), "from intrinsic %s to %s" % (exact(one.start), exact(one.end)), gone)
+    return title("element %d, %s" % (one.element, where), "from intrinsic %s to %s" % (exact(one.start), exact(one.end)), on, gone)
 
 
 def box(bar, x, y, width, height, label, words, more=""):
@@ -48,14 +49,17 @@ def draw_group(bar, axis, y):
 
 
 def draw_stack(bars, axis, y):
-    """The bridges behind a row, one below the other, on the border to the next row."""
+    """The bridges behind a row, one below the other, on the border to the next row. One that collapsing joined with later ones reaches up to its last row."""
     width = min(26, axis.pitch - 2)
-    x = axis.pitch * (bars[0].segment.last + 1) - width / 2
+    x = axis.pitch * (bars[0].segment.first + 1) - width / 2
     shown = bars if len(bars) <= STACKED else bars[: STACKED - 1]
-    drawn = [box(bar, x, y + (SMALL + 2) * k, width, SMALL, str(bar.segment.element), bar_words(bar)) for k, bar in enumerate(shown)]
+    drawn = []
+    for k, bar in enumerate(shown):
+        reach = axis.pitch * (bar.segment.last - bar.segment.first) - 2
+        drawn.append(box(bar, x, y + (SMALL + 2) * k, max(width, reach), SMALL, str(bar.segment.element), bar_words(bar)))
     rest = bars[len(shown) :]
     if rest:
-        words = title("%d more bridges behind row %d" % (len(rest), rest[0].segment.last), "elements " + listed([bar.segment.element for bar in rest]))
+        words = title("%d more bridges behind row %d" % (len(rest), rest[0].segment.first), "elements " + listed([bar.segment.element for bar in rest]))
         drawn.append(box(rest[0], x, y + (SMALL + 2) * (STACKED - 1), width, SMALL, "+%d" % len(rest), words))
     return "".join(drawn)
 

@@ -1,6 +1,6 @@
 """Draws the rows of a drive: axis, lanes, dots, best path, gaps and broken rows, and what is shown of a row that one points at."""
 
-from picture.layout import LANE, TOP, gaps, is_over_gap, label_step, parent_lines, path_steps, shade
+from picture.layout import LANE, TOP, gaps, is_over_gap, label_step, parent_lines, path_steps, pieces, shade
 from picture.marks import counted, exact, line, number, svg, title
 
 BLOCK = 100  # rows in one drawing: a browser passes over those that are out of sight
@@ -9,13 +9,17 @@ LABELS = 96  # the width of what stands before the first row
 BEND = 14  # of a link over a gap
 
 
-def place(drive, number_of_row):
-    """The line of the file where a row's fix stands."""
-    return "line %d of the file" % drive.lines[number_of_row] if drive.lines else ""
+def span(noun, first, last):
+    return "%s %d" % (noun, first) if first == last else "%ss %d to %d" % (noun, first, last)
 
 
 def rows_in_words(first, last):
-    return "row %d" % first if first == last else "rows %d to %d" % (first, last)
+    return span("row", first, last)
+
+
+def place(drive, first, last):
+    """The lines of the file where the fixes of rows stand."""
+    return span("line", drive.lines[first], drive.lines[last]) + " of the file" if drive.lines else ""
 
 
 def axis_strip(drive, axis):
@@ -50,8 +54,8 @@ def lane_stripes(axis, left, width):
 
 def draw_gap(drive, axis, first, last):
     rows = drive.rows[first : last + 1]
-    minutes = "minute %d" % rows[0].minute if rows[0].minute == rows[-1].minute else "minutes %d to %d" % (rows[0].minute, rows[-1].minute)
-    told = title("%s, %s" % (rows_in_words(first, last), minutes), "no candidates", place(drive, first))
+    minutes = span("minute", rows[0].minute, rows[-1].minute)
+    told = title("%s, %s" % (rows_in_words(first, last), minutes), "no candidates", place(drive, first, last))
     column = '<rect class="gap" x="%s" y="0" width="%s" height="%d">%s</rect>'
     return column % (number(axis.pitch * first), number(axis.pitch * len(rows)), axis.height, told)
 
@@ -68,7 +72,7 @@ def dot_words(drive, row, candidate):
         "raw log " + exact(candidate.raw_log),
         "score " + exact(candidate.score) + below,
         "parent: " + parent,
-        place(drive, row.number),
+        place(drive, row.number, row.number),
     )
 
 
@@ -77,7 +81,7 @@ def row_words(drive, row):
     if not row.scores:
         come = "no candidate has a score"
     broken = "broken: no step leads to it from row %d" % row.predecessor if row.number in drive.broken else ""
-    return title("row %d, minute %d" % (row.number, row.minute), counted(len(row.candidates), "candidate"), come, broken, place(drive, row.number))
+    return title("row %d, minute %d" % (row.number, row.minute), counted(len(row.candidates), "candidate"), come, broken, place(drive, row.number, row.number))
 
 
 def row_kind(drive, row):
@@ -101,10 +105,10 @@ def target_of(row, on_path):
 
 
 def draw_row(drive, axis, row, on_path):
-    """A row with candidates: its column, which one may point at, and its dots."""
+    """A row with candidates: its column, which one may point at, and its dots, the better ones on top."""
     best, dots, target = row.best, [], target_of(row, on_path)
-    for k, candidate in enumerate(row.candidates):
-        x, y = axis.dot(row.number, k)
+    for k in sorted(range(len(row.candidates)), key=lambda k: (k == target, row.candidates[k].score)):
+        candidate, (x, y) = row.candidates[k], axis.dot(row.number, k)
         kind = "d%d" % shade(candidate.score, best) + (" on" if on_path.get(row.number) == k else "")
         name = ' id="row-%d"' % row.number if k == target else ""
         dots.append('<circle%s class="%s" cx="%s" cy="%s" r="5">%s</circle>' % (name, kind, number(x), number(y), dot_words(drive, row, candidate)))
@@ -122,35 +126,37 @@ def draw_link(row, axis):
     return '<path class="link" d="%s">%s</path>' % (bow, words)
 
 
-def draw_path(steps):
-    """The best path: its steps by kind, each kind as one line."""
-    kinds = {}
-    for step in steps:
-        kinds.setdefault(step.kind, []).append(line(step.start, step.end))
-    return "".join('<path class="path %s" d="%s"/>' % (kind, "".join(pieces)) for kind, pieces in kinds.items())
+def draw_path(drive, axis):
+    """The best path in the drawings that it runs through, each kind of step as one line."""
+    lines = {}
+    for step in path_steps(drive, axis):
+        for block, ends in pieces(step, BLOCK * axis.pitch):
+            lines.setdefault((block, step.kind), []).append(line(*ends))
+    for (block, kind), data in lines.items():
+        yield block, '<path class="path %s" d="%s"/>' % (kind, "".join(data))
 
 
-def block_of(x, axis):
-    return int(x / axis.pitch) // BLOCK
-
-
-def lane_blocks(drive, axis):
-    """The lanes in drawings of so many rows each. A step or link stands in that of its later row."""
-    count = -(-len(drive.rows) // BLOCK)
-    under, over = [[] for _ in range(count)], [[] for _ in range(count)]
+def marks_of(drive, axis):
+    """The marks of the lanes, each with the number of its drawing; what comes later lies on top. A link stands in the drawing of its later row."""
     for first, last in gaps(drive.rows):
         for block in range(first // BLOCK, last // BLOCK + 1):
-            under[block].append(draw_gap(drive, axis, max(first, BLOCK * block), min(last, BLOCK * block + BLOCK - 1)))
-    steps = [[] for _ in range(count)]
-    for step in path_steps(drive, axis):
-        steps[block_of(step.end[0], axis)].append(step)
+            yield block, draw_gap(drive, axis, max(first, BLOCK * block), min(last, BLOCK * block + BLOCK - 1))
+    for row in drive.rows:
+        if is_over_gap(row):
+            yield row.number // BLOCK, draw_link(row, axis)
+    yield from draw_path(drive, axis)
     on_path = dict(drive.path)
     for row in drive.rows:
         if row.candidates:
-            over[row.number // BLOCK].append(draw_row(drive, axis, row, on_path))
-        if is_over_gap(row):
-            under[row.number // BLOCK].append(draw_link(row, axis))
-    return ["".join(under[k]) + draw_path(steps[k]) + "".join(over[k]) for k in range(count)]
+            yield row.number // BLOCK, draw_row(drive, axis, row, on_path)
+
+
+def lane_blocks(drive, axis):
+    """The lanes in drawings of so many rows each."""
+    blocks = [[] for _ in range(-(-len(drive.rows) // BLOCK))]
+    for block, mark in marks_of(drive, axis):
+        blocks[block].append(mark)
+    return ["".join(marks) for marks in blocks]
 
 
 def lane_strip(drive, axis):

@@ -108,6 +108,14 @@ def path_steps(drive, axis):
     return steps
 
 
+def pieces(step, width):
+    """The pieces of a step in the drawings of this width that it runs through, each with the drawing's number."""
+    (left, upper), (right, lower) = step.start, step.end
+    for block in range(int(left // width), int(right // width) + 1):
+        ends = max(left, width * block), min(right, width * (block + 1))
+        yield block, [(x, upper + (lower - upper) * (x - left) / (right - left)) for x in ends]
+
+
 def parent_lines(row, axis):
     """A line to each dot of a row from the dot of its parent."""
     ends = enumerate(row.candidates)

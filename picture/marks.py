@@ -4,8 +4,8 @@ from html import escape
 
 
 def number(value):
-    """A coordinate without needless digits."""
-    return "%g" % round(value, 1)
+    """A coordinate, to a tenth of a pixel."""
+    return ("%.1f" % value).removesuffix(".0")
 
 
 def counted(count, noun):

@@ -1,13 +1,13 @@
 """Draws the network: elements as boxes with their lengths, relations as lines between their sides."""
 
-from picture.marks import number, svg, title
+from picture.marks import exact, number, svg, title
 from picture.network_layout import HEIGHT, WIDTH, drawn, windows_in_words
 
 MARGIN = 12
 
 
 def metres(length):
-    return "%g m" % length
+    return exact(length).removesuffix(".0") + " m"
 
 
 def draw_element(element, length, middle, on_path):

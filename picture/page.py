@@ -4,27 +4,17 @@ from html import escape
 from pathlib import Path
 
 from picture import bands, chart
-from picture.layout import LANE, SHADES, TOP, axis_of
+from picture.layout import axis_of
+from picture.legend import DEFINITIONS, legend
 from picture.marks import counted, exact, number
 from picture.network_chart import network_drawing, not_drawn
 from picture.network_layout import plan
 from picture.segments import elements_on_path, relations_on_path
 
 FOLDER = Path(__file__).resolve().parent
-JUMPS = 20  # links to places of a long drive
+LONG = 200  # rows: a longer drive has links to its places
+JUMPS = 20  # so many
 MOST_REFUSALS = 1000  # that are listed
-
-STRIPE = '<pattern id="stripes" width="10" height="%d" y="%d" patternUnits="userSpaceOnUse"><rect width="10" height="%d" fill="#f3f6f9"/></pattern>'
-HATCH = (
-    '<pattern id="%s" width="%d" height="8" patternUnits="userSpaceOnUse" patternTransform="rotate(45)">'
-    '<rect width="%d" height="8" fill="%s"/><rect width="%d" height="8" fill="%s"/></pattern>'
-)
-ARROW = (
-    '<marker id="arrow" viewBox="0 0 10 10" refX="9" refY="5" markerWidth="9" markerHeight="9" markerUnits="userSpaceOnUse" orient="auto-start-reverse">'
-    '<path d="M0 0L10 5L0 10z" style="stroke:none;fill:#33475b"/></marker>'
-)
-HATCHES = HATCH % ("no-candidates", 8, 8, "#dfe3e7", 3, "#c9ced4") + HATCH % ("bridge", 6, 6, "#fff", 2, "#8aa4bd")
-DEFINITIONS = "<defs>%s%s%s</defs>" % (STRIPE % (2 * LANE, TOP, LANE), HATCHES, ARROW)
 
 
 def css(name):
@@ -49,33 +39,11 @@ def strip(name, names, drawing):
     return '<div class="strip %s">%s%s</div>' % (name, names, drawing)
 
 
-def key(drawing, words, width=22):
-    return '<li><svg width="%d" height="16" viewBox="0 0 %d 16">%s</svg>%s</li>' % (width, width, drawing, words)
-
-
-def legend():
-    """What the marks of the drive mean."""
-    words = ["the row's best score"] + ["up to %g below" % limit for limit in SHADES[1:]] + ["more below", "no score"]
-    dots = [key('<circle class="d%d" cx="11" cy="8" r="5"/>' % k, text) for k, text in enumerate(words)]
-    others = [
-        key('<path class="path" d="M2 8H20"/>', "best path"),
-        key('<path class="path over" d="M2 8H20"/>', "over a gap"),
-        key('<rect class="gap" width="22" height="16"/>', "no candidates"),
-        key('<g class="silent"><rect class="column" width="22" height="16"/></g>', "no candidate scores"),
-        key('<path class="cross" d="M6 3l10 10m0 -10l-10 10"/>', "broken row"),
-        key('<path class="link" d="M2 14C4 3 18 3 20 14"/>', "where scores came from, over a gap"),
-        key('<g class="bar"><rect x="1" y="2" width="20" height="12" rx="3"/></g>', "segment"),
-        key('<g class="bar bridge"><rect x="1" y="2" width="20" height="12" rx="3"/></g>', "bridge"),
-        key('<g class="bar taken"><rect x="1" y="2" width="20" height="12" rx="3"/><path d="M0 8h22"/></g>', "taken out by collapsing"),
-    ]
-    return '<ul class="legend">%s</ul>' % "".join(dots + others)
-
-
 def jumps(drive):
     """Links to places of a long drive, and to its broken rows."""
-    step = -(-len(drive.rows) // JUMPS)
-    standing = [row.number for row in drive.rows if row.candidates]
-    places = sorted({min(standing, key=lambda row: abs(row - k)) for k in range(0, len(drive.rows), step)}) if standing and step > 1 else []
+    count, standing = len(drive.rows), [row.number for row in drive.rows if row.candidates]
+    is_long = standing and count > LONG
+    places = sorted({min(standing, key=lambda row: abs(row - k)) for k in range(0, count, -(-count // JUMPS))}) if is_long else []
     return links("Rows", places) + links("Broken rows", sorted(drive.broken))
 
 
@@ -120,7 +88,7 @@ def network_section(drive):
     words = "Sides are numbered at the edges of each box; arrows show which way one may pass; what the best path uses is drawn strong."
     if any(relation.windows for relation in network.relations):
         words += " A relation that is shut 5-9 is so from minute 5 on, and open again at 9."
-    others = "".join("<li>%s</li>" % words for words in not_drawn(network))
+    others = "".join("<li>%s</li>" % one for one in not_drawn(network))
     told = "<p>Not drawn, since they name an element or a side that there is not:</p><ul>%s</ul>" % others if others else ""
     return '<p>%s <span class="plan">%s</span></p><div class="pane">%s</div>%s' % (words, made.said, drawing, told)
 

@@ -40,7 +40,7 @@ def stacks(bars):
     found = {}
     for bar in bars:
         if bar.is_bridge:
-            found.setdefault(bar.segment.last, []).append(bar)
+            found.setdefault(bar.segment.first, []).append(bar)
     return found
 
 

@@ -1,6 +1,7 @@
 import unittest
 
-from picture.layout import LANE, TOP, axis_of, gaps, heights, is_over_gap, lanes_of, parent_lines, path_steps, shade
+from picture.layout import LANE, TOP, Step, axis_of, gaps, heights, is_over_gap, lanes_of, parent_lines, path_steps, pieces, shade
+from picture.marks import number
 from picture.tests.examples import NO_SCORE, drive, row
 
 # Two rows, two without candidates, and one behind them, all on elements 7 and 2.
@@ -24,6 +25,10 @@ class Lanes(unittest.TestCase):
         axis = axis_of(TUNNEL)
         self.assertEqual(axis.dot(1, 0), (1.5 * axis.pitch, TOP + 1.5 * LANE))
         self.assertEqual((axis.width, axis.height >= TOP + 2 * LANE), (5 * axis.pitch, True))
+
+    def test_coordinates(self):
+        """A tenth of a pixel is told, however far to the right."""
+        self.assertEqual([number(value) for value in (0, 20.0, 1310690.0, 130010.5, 7 / 3)], ["0", "20", "1310690", "130010.5", "2.3"])
 
     def test_shared_lane(self):
         """Candidates of one element stand apart within its lane, up to sixteen of them."""
@@ -62,3 +67,8 @@ class Tunnel(unittest.TestCase):
         steps = path_steps(drive(rows, path, broken=[5]), axis)
         self.assertEqual([step.kind for step in steps], ["step", "over", "broken"])
         self.assertEqual((steps[1].start, steps[1].end), (axis.dot(1, 1), axis.dot(4, 0)))
+
+    def test_pieces(self):
+        """A step that runs through several drawings is cut at their borders."""
+        self.assertEqual(list(pieces(Step((50, 0), (250, 20), "over"), 100)), [(0, [(50, 0), (100, 5)]), (1, [(100, 5), (200, 15)]), (2, [(200, 15), (250, 20)])])
+        self.assertEqual(list(pieces(Step((110, 7), (130, 7), "step"), 100)), [(1, [(110, 7), (130, 7)])])

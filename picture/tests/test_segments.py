@@ -1,5 +1,7 @@
 import unittest
 
+from picture.answers import Decision, Segment
+from picture.bands import decision_words
 from picture.segments import Bar, bars_after, bars_before, bridge_flags, elements_on_path, relations_on_path, stack_height, stacks
 from picture.tests.examples import bridge, drive, group, line_of, relation, row
 
@@ -24,6 +26,19 @@ class Bars(unittest.TestCase):
         """Where collapsing changed nothing every bar is left."""
         self.assertEqual([bar.taken_by for bar in bars_before(BEFORE, BEFORE)], [None] * 8)
         self.assertEqual(bars_before([], []), [])
+
+    def test_joined_bridges(self):
+        """A bridge that collapsing joined with a later one stays behind its first row."""
+        joined = Segment(3, 0.0, 1.0, 8, 10)
+        bars = bars_before(BEFORE[1:6], [BEFORE[1], joined, BEFORE[5]])
+        self.assertEqual([bar.taken_by for bar in bars], [None, None, joined, joined, None])
+        self.assertEqual({row: [bar.segment for bar in stack] for row, stack in stacks(bars_after(bars, [BEFORE[1], joined, BEFORE[5]])).items()}, {8: [joined]})
+
+    def test_decisions(self):
+        """Decisions in words."""
+        self.assertEqual(decision_words(Decision(1, 1, [2])), "Element 1 goes on over a span of 1 row; removed between: element 2.")
+        self.assertEqual(decision_words(Decision(1, 2, [3, 2, 3])), "Element 1 goes on over a span of 2 rows; removed between: elements 3, 2 and 3.")
+        self.assertEqual(decision_words(Decision(1, 0, [])), "Element 1: two segments next to each other became one.")
 
     def test_stacks(self):
         """The bridges behind a row stand one below the other, not more than fit."""
