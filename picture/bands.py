@@ -76,7 +76,7 @@ def draw_band(bars, axis, y):
 def bands(drive):
     """The two lists of bars, with the names of their bands."""
     before = bars_before(drive.segments, drive.collapsed)
-    return [("segments", before), ("collapsed", bars_after(before, drive.collapsed))]
+    return [("segments", before)] + ([("collapsed", bars_after(before, drive.collapsed))] if drive.collapsed else [])
 
 
 def total_height(drive):

@@ -64,7 +64,7 @@ def drive_of(commands, calls, asked, lines_before, ask):
     rows = rows_of(words.lines) if close.refusal is None else []
     path, score = read_path(close)
     built = segments.refusal is None
-    refused = [(what, answer.refusal) for what, answer in (("Closing", close), ("Building segments", segments)) if answer.refusal is not None]
+    told = [("Closing", close), ("Building segments", segments)] + ([("Collapsing", collapse)] if built else [])
     numbers = [line - lines_before for line in lines_of_rows(calls)]
     return Drive(
         network=network_of(commands),
@@ -77,7 +77,7 @@ def drive_of(commands, calls, asked, lines_before, ask):
         collapsed=read_segments(collapse) if built else [],
         decisions=read_decisions(collapse) if built else [],
         refusals=refusals_of(calls, lines_before),
-        unanswered=[Refusal(None, *one) for one in refused],
+        unanswered=[Refusal(None, what, answer.refusal) for what, answer in told if answer.refusal is not None],
     )
 
 

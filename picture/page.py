@@ -106,7 +106,7 @@ def refusal_section(drive):
 def sections(drive):
     """Anchor, link, heading and content of each section."""
     yield "drive", "Drive", "The drive", drive_section(drive)
-    if drive.segments:
+    if drive.collapsed:
         yield "decisions", "Collapsing", "What collapsing decided", decision_section(drive)
     yield "network", "Network", "The network", network_section(drive)
     yield "refused", "Refused (%d)" % len(drive.refusals), "What was refused", refusal_section(drive)

@@ -59,6 +59,11 @@ class Asking(unittest.TestCase):
         _, drive = self.asked(b"journal 9", ["open ok", "close refused 7", "words 1", "50000002", "segments refused 7"] + held)
         self.assertEqual((drive.rows, drive.path, drive.collapsed, [one.number for one in drive.unanswered]), ([], [], [], [7, 7]))
 
+    def test_refused_collapse(self):
+        """Collapsing that is refused is said to be so."""
+        _, drive = self.asked(b"journal 9", ["open ok"] + NOTHING[:4] + ["collapse refused 15"])
+        self.assertEqual([(one.what, one.number) for one in drive.unanswered], [("Collapsing", 15)])
+
 
 class Broken(unittest.TestCase):
     FIRST = Row(0, 0, None, [Candidate(0, 0.5, 0, -1.0, None, -1.0), Candidate(1, 0.5, 0, -1.0, None, -1.0)])
