@@ -138,9 +138,14 @@ class Page(unittest.TestCase):
         self.check("all('#refused + table td', isPainted).every(x => x)", True)
 
     def test_jump(self):
-        """A link leads to a row that is out of sight."""
+        """A link leads to a row that is out of sight, on either side, and not behind the names of the lanes."""
         self.opened(NARROW)
-        seen = "isInPane(document.querySelector('#row-15'))"
-        self.check(seen, False)
-        self.browser.value("document.querySelector('.jumps a[href=\"#row-15\"]').click()")
+        self.jump(15, 0, "document.querySelector('.jumps a[href=\"#row-15\"]').click()")
+        self.jump(2, 10000, "location.hash = '#row-2'")
+
+    def jump(self, row, scrolled, action):
+        """An action brings a row into sight, from where the pane is scrolled to."""
+        seen = "isInPane(document.querySelector('#row-%d'))" % row
+        self.check("document.querySelector('.pane').scrollLeft = %d; %s" % (scrolled, seen), False)
+        self.browser.value(action)
         self.check("new Promise(done => setTimeout(done, 100)).then(() => %s)" % seen, True)
