@@ -1,9 +1,14 @@
+import re
 import unittest
+from pathlib import Path
 
 from picture.answers import answered, answers_of
 from picture.drive import JOURNAL, QUESTIONS, Unreadable, lines_of_rows, looks_broken, read_drive, refusals_of
 from picture.journal import Candidate, Row
 from picture.language import commands_of
+from picture.refusals import MEANINGS
+
+ROOT = Path(__file__).resolve().parent.parent.parent
 
 NOTHING = ["close none", "words 1", "50000001", "segments 0", "collapse 0 0"]
 
@@ -30,6 +35,12 @@ class Calls(unittest.TestCase):
         self.assertEqual([one.what for one in found], ["opening a journal of 0 words", "feed of 1 candidate and 1 distance", "strike of 1 row"])
         self.assertEqual([one.number for one in found], [12, 10, 13])
         self.assertIn("number of distances", found[1].meaning)
+
+
+    def test_every_number(self):
+        """Every refusal number of the header has words."""
+        numbers = re.findall(r"BOX_REFUSED_\w+ = (\d+)", (ROOT / "include" / "box.h").read_text(encoding="utf-8"))
+        self.assertEqual(sorted(MEANINGS), sorted(map(int, numbers)))
 
 
 class Asking(unittest.TestCase):
