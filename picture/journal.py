@@ -28,6 +28,7 @@ class Row(NamedTuple):
 
     @property
     def scores(self):
+        """Document 01: a row scores if one of its scores is finite."""
         return self.best > float("-inf")
 
 

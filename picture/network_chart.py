@@ -1,7 +1,7 @@
 """Draws the network: elements as boxes with their lengths, relations as lines between their sides."""
 
 from picture.marks import exact, number, svg, title
-from picture.network_layout import HEIGHT, WIDTH, drawn, windows_in_words
+from picture.network_layout import HEIGHT, WIDTH, drawn, is_turned, windows_in_words
 
 MARGIN = 12
 
@@ -36,9 +36,8 @@ def relation_words(number_of_relation, relation):
 
 
 def heads(relation):
-    """Arrow heads at the ends that one may run to. The line runs from the left end to the right one where `ends` turned it round."""
-    turned = (relation.start_side, relation.end_side) == (0, 1)
-    at_end, at_start = (relation.backward, relation.forward) if turned else (relation.forward, relation.backward)
+    """Arrow heads at the ends of the line that one may run to."""
+    at_end, at_start = (relation.backward, relation.forward) if is_turned(relation) else (relation.forward, relation.backward)
     return ('marker-end="url(#arrow)" ' if at_end else "") + ('marker-start="url(#arrow)" ' if at_start else "")
 
 

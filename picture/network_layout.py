@@ -28,10 +28,15 @@ def windows_in_words(relation):
     return "shut " + ", ".join("%d-%d" % window for window in relation.windows) if relation.windows else ""
 
 
+def is_turned(relation):
+    """Whether a line is drawn from the relation's end to its start, so that it runs from left to right."""
+    return (relation.start_side, relation.end_side) == (0, 1)
+
+
 def ends(relation):
-    """Element and side of both ends; where they are sides 1 and 0, that of side 1 first, so that the line runs from left to right."""
+    """Element and side of both ends of a line, in the order in which it is drawn."""
     pair = (relation.start, relation.start_side), (relation.end, relation.end_side)
-    return pair if (relation.start_side, relation.end_side) != (0, 1) else pair[::-1]
+    return pair[::-1] if is_turned(relation) else pair
 
 
 def in_dot(network):

@@ -1,11 +1,10 @@
 import unittest
-from pathlib import Path
 
 from picture.answers import Decision, Segment, answered, answers_of, read_decisions, read_path, read_segments
 from picture.journal import Candidate, rows_of
 from picture.language import commands_of
+from picture.tests import ROOT
 
-ROOT = Path(__file__).resolve().parent.parent.parent
 OUTPUT = """open ok
 feed refused 17
 words 2

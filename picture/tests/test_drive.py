@@ -1,14 +1,12 @@
 import re
 import unittest
-from pathlib import Path
 
 from picture.answers import answered, answers_of
 from picture.drive import JOURNAL, QUESTIONS, Unreadable, lines_of_rows, looks_broken, read_drive, refusals_of
 from picture.journal import Candidate, Row
 from picture.language import commands_of
 from picture.refusals import MEANINGS
-
-ROOT = Path(__file__).resolve().parent.parent.parent
+from picture.tests import ROOT
 
 NOTHING = ["close none", "words 1", "50000001", "segments 0", "collapse 0 0"]
 

@@ -2,9 +2,9 @@ import re
 import subprocess
 import tempfile
 import unittest
-from pathlib import Path
 
-ROOT = Path(__file__).resolve().parent.parent.parent
+from picture.tests import ROOT
+
 EXAMPLE = "examples/drive.cases"
 BAD = "network 1 0\n100 270 90 90 270 1\nsettings 10 30\nfeed 1 0 0 0.1 1 -1e5\n"
 DAMAGED = "network 1 0\n100 270 90 90 270 1\nsettings 10 30\njournal 50\nfeed 1 0 0 0.1 1 -1\npoke 1 FFFFFFFF\n"

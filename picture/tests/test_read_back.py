@@ -4,7 +4,8 @@ from picture.answers import answers_of
 from picture.drive import JOURNAL, read_drive
 from picture.journal import NO_PARENT, Candidate
 from picture.language import float_of
-from picture.tests.test_page import EXAMPLE, ROOT, run
+from picture.tests import ROOT
+from picture.tests.test_page import EXAMPLE, run
 
 
 def ask(text):
