@@ -104,7 +104,7 @@ fn feed_fix(
 }
 
 // Where reading stands behind a fix, and what feeding it answered: done where it was not fed, since a word of it could not be read.
-#[derive(Drop)]
+#[derive(Clone, Copy)]
 pub struct Fed {
     pub cursor: Cursor,
     pub answer: Answer,

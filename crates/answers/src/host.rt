@@ -55,7 +55,7 @@ pub const WHOLE: u32 = 4294967295;
 
 // Where the text is read, the place in the output, the network's counts, the settings, the minute of the calls, the journal's words, how many
 // segments are held, and whether the last call that answers a list kept the entries past it.
-#[derive(Drop)]
+#[derive(Clone, Copy)]
 pub struct Host {
     pub cursor: Cursor,
     pub out: usize,

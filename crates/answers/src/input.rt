@@ -4,7 +4,7 @@ use libc::STDIN_FILENO;
 use text::window::keep_rest;
 
 // The place of the next byte to be read, how many bytes of the text are filled, how many of them are whole words, and whether the input has ended.
-#[derive(Drop)]
+#[derive(Clone, Copy)]
 pub struct Input {
     pub at: usize,
     pub filled: usize,

@@ -10,7 +10,7 @@ pub const LINES: u64 = 18446744073709551615;
 
 // A line's first word, what the program holds behind it, and the input. Where it is over there is no such line: the input has ended, or a word
 // could not be read.
-#[derive(Drop)]
+#[derive(Clone, Copy)]
 pub struct Line {
     pub keyword: Keyword,
     pub host: Host,

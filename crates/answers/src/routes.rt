@@ -21,7 +21,7 @@ use text::list::first_numbers;
 const STATES: usize = 4200;
 
 // A side of an element.
-#[derive(Drop)]
+#[derive(Clone, Copy)]
 struct Side {
     element: u32,
     side: u32,

@@ -15,7 +15,7 @@ use text::list::read_segments;
 const DECISION: usize = 6;
 
 // A list of the text, and where the text goes on.
-#[derive(Drop)]
+#[derive(Clone, Copy)]
 struct TakenList {
     cursor: Cursor,
     list: [Segment; ARRAY_SEGMENTS],

@@ -10,7 +10,7 @@ use journal::check::{Predecessor, Survey, read_journal};
 use rows::previous::best_previous;
 
 // What closing answers: no row scores; the score of the best path and its number of pairs; or a refusal's number.
-#[derive(Drop)]
+#[derive(Clone, Copy)]
 pub enum Closing {
     Nothing,
     Path(f64, usize),

@@ -11,7 +11,7 @@ use journal::read::minute_of;
 use journal::record::{FIRST_CELL, distance_count};
 
 // What reading a row answers: its number of candidates and of predecessor candidates and its minute, or a refusal's number.
-#[derive(Drop)]
+#[derive(Clone, Copy)]
 pub enum RowRead {
     Row(usize, usize, u32),
     Refused(u32),
@@ -28,12 +28,13 @@ fn copy_row(
     scores: &mut [f64],
     distances: &mut [f64],
 ) -> RowRead
-    ghost b: { RowBuffers }
-    requires distances_value { row_buffers_of elements.old intrinsics.old near.old raw_logs.old parents.old scores.old distances.old ≡ b }
-    requires record_whole { RecordWhole words.now }
-    ensures { let l = row_fitted b (read_row words.now) in
+    requires { RecordWhole words.now }
+    ensures {
+        let b = row_buffers_of elements.old intrinsics.old near.old raw_logs.old parents.old scores.old distances.old in
+        let l = row_fitted b (read_row words.now) in
         (result ≡ row_answer l)
-        × (row_buffers_of elements.new intrinsics.new near.new raw_logs.new parents.new scores.new distances.new ≡ filled l b) }
+        × (row_buffers_of elements.new intrinsics.new near.new raw_logs.new parents.new scores.new distances.new ≡ filled l b)
+    }
 {
     let count = (words[0] % 32) as usize;
     let before = (words[0] / 32 % 32) as usize;

@@ -7,7 +7,7 @@ use rows::record::parent_of;
 
 // Where it stands: so many rows are left, whose records end at a place; where the record of the latest of them that scores starts, and its candidate,
 // 31 for none; and the number of pairs found so far.
-#[derive(Drop)]
+#[derive(Clone, Copy)]
 pub struct Back {
     pub rows: usize,
     pub end: usize,

@@ -9,7 +9,7 @@ use journal::read::minute_of;
 use rows::previous::{NO_PARENT, candidate_of};
 
 // A group as far as it was read, and where the walk then stands. `begun`: it has a state. `ended`: the next state is of another element.
-#[derive(Drop)]
+#[derive(Clone, Copy)]
 pub struct Gathering {
     pub begun: bool,
     pub ended: bool,

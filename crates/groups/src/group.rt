@@ -5,7 +5,7 @@ ghost use Rattle.groups.specs.Groups.{state_of, lesser, greater, alone, with_sta
 use journal::record::Candidate;
 
 // Consecutive states of one element: the least and the greatest intrinsic, the first and the last row, and the minute of the first.
-#[derive(Drop)]
+#[derive(Clone, Copy)]
 pub struct NetelementGroup {
     pub element: u32,
     pub minute: u32,

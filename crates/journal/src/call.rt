@@ -6,14 +6,14 @@ ghost use Rattle.journal.specs.inner.Strike.{RowsAtLeast, end_of};
 use crate::check::{Predecessor, Survey, read_journal};
 
 // What a call that writes the journal answers: done, or a refusal's number.
-#[derive(Drop)]
+#[derive(Clone, Copy)]
 pub enum Answer {
     Done,
     Refused(u32),
 }
 
 // The predecessor of the next fix: none; its row, from 0, and how many candidates it has; or a refusal's number.
-#[derive(Drop)]
+#[derive(Clone, Copy)]
 pub enum Preceding {
     Nothing,
     Row(u32, usize),

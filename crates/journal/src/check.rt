@@ -8,7 +8,7 @@ use crate::lengths::record_lengths;
 use crate::read::{Record, read_row};
 
 // The predecessor of a further row: where its record starts, its number and how many candidates it has.
-#[derive(Drop)]
+#[derive(Clone, Copy)]
 pub enum Predecessor {
     Nothing,
     At {
@@ -19,7 +19,7 @@ pub enum Predecessor {
 }
 
 // What check 7 finds: the number of rows, of used words, the predecessor of a further row, and the minute of the last one, or 0.
-#[derive(Drop)]
+#[derive(Clone, Copy)]
 pub enum Survey {
     NotWellFormed,
     WellFormed {

@@ -15,7 +15,7 @@ use crate::range::{distance_ok, parent_ok};
 use crate::record::{Candidate, FIRST_CELL, distance_count};
 
 // What stands at the head of some words: no record, or a record's length, its number of candidates, whether its row scores, and its minute.
-#[derive(Drop)]
+#[derive(Clone, Copy)]
 pub enum Record {
     Bad,
     Whole {

@@ -9,7 +9,7 @@ use crate::check::both;
 use crate::link::{Link, Relation, link_ahead, link_behind, node_of, relation_at};
 
 // The nodes from one to another.
-#[derive(Drop)]
+#[derive(Clone, Copy)]
 pub struct Nodes {
     pub first: usize,
     pub last: usize,
@@ -77,12 +77,16 @@ pub fn are_joined(
     sources: Nodes,
     targets: Nodes,
 ) -> bool
-    ghost { Relations × Windows }
-    requires* window_lasts_value { λ α.
+    requires {
         let rs = relations_of from.now to.now from_side.now to_side.now forward.now backward.now in
-        ⌜ (rs, windows_of window_counts.now window_firsts.now window_lasts.now) ≡ α ⌝ }
-    requires* fact { λ (rs, w). ⌜ RelationsFit rs × WindowsFit w ⌝ }
-    ensures* { λ (rs, w) r. ⌜ r ≡ joined (links_of elements (relations_at w minute rs)) sources targets ⌝ }
+        let w = windows_of window_counts.now window_firsts.now window_lasts.now in
+        RelationsFit rs × WindowsFit w
+    }
+    ensures {
+        let rs = relations_of from.now to.now from_side.now to_side.now forward.now backward.now in
+        let w = windows_of window_counts.now window_firsts.now window_lasts.now in
+        result ≡ joined (links_of elements (relations_at w minute rs)) sources targets
+    }
 {
     for k in 0..from.len() {
         let r = relation_at(

@@ -19,7 +19,7 @@ use transition::step::Settings;
 
 // How far the comparison came: a row's number, where its record starts, and whether it is the same, as far as that was found. Past the last row the
 // place is the end of the used words.
-#[derive(Drop)]
+#[derive(Clone, Copy)]
 pub struct Reached {
     pub row: usize,
     pub at: usize,
@@ -39,11 +39,20 @@ fn compare_stretch(
     end: usize,
     start: Reached,
 ) -> Reached
-    ghost { Track × List Row }
-    requires* journal_value { λ α. ⌜ (track_in lengths.now headings.now flags.now heads.now links.now, rows_in journal.now) ≡ α ⌝ }
-    requires* fact { λ (t, rs). ⌜ TrackFits t × Replayable (element_count t.graph) rs journal.now end ⌝ }
-    requires* fact_2 { λ (t, rs). ⌜ StandsAt rs start.row start.at × (start.at < end) × ((row_number rs start.row).minute ≡ minute) ⌝ }
-    ensures* { λ (t, rs) r. ⌜ Stretch (step_on t settings) minute rs start.row r ⌝ }
+    requires track_fits {
+        let t = track_in lengths.now headings.now flags.now heads.now links.now in
+        let rs = rows_in journal.now in
+        TrackFits t × Replayable (element_count t.graph) rs journal.now end
+    }
+    requires stands_at {
+        let rs = rows_in journal.now in
+        StandsAt rs start.row start.at × (start.at < end) × ((row_number rs start.row).minute ≡ minute)
+    }
+    ensures {
+        let t = track_in lengths.now headings.now flags.now heads.now links.now in
+        let rs = rows_in journal.now in
+        Stretch (step_on t settings) minute rs start.row result
+    }
 {
     let mut at = start.at;
     let mut row = start.row;
@@ -102,13 +111,21 @@ fn compare_minute(
     end: usize,
     start: Reached,
 ) -> Reached
-    ghost { Network × List Row }
-    requires* journal_value { λ α.
+    requires fact {
         let net = network_of lengths.now headings.now flags.now from.now to.now from_side.now to_side.now forward.now backward.now window_counts.now window_firsts.now window_lasts.now in
-        ⌜ (net, rows_in journal.now) ≡ α ⌝ }
-    requires* fact { λ (net, rs). ⌜ (checked net ≡ Checked.Accepted) × Replayable (known_count net) rs journal.now end ⌝ }
-    requires* fact_2 { λ (net, rs). ⌜ Compared (transition net settings) rs start × (start.at < end) ⌝ }
-    ensures* { λ (net, rs) r. ⌜ Compared (transition net settings) rs r × ((start.row < r.row) ⊎ (r.same ≡ false)) ⌝ }
+        let rs = rows_in journal.now in
+        (checked net ≡ Checked.Accepted) × Replayable (known_count net) rs journal.now end
+    }
+    requires compared {
+        let net = network_of lengths.now headings.now flags.now from.now to.now from_side.now to_side.now forward.now backward.now window_counts.now window_firsts.now window_lasts.now in
+        let rs = rows_in journal.now in
+        Compared (transition net settings) rs start × (start.at < end)
+    }
+    ensures {
+        let net = network_of lengths.now headings.now flags.now from.now to.now from_side.now to_side.now forward.now backward.now window_counts.now window_firsts.now window_lasts.now in
+        let rs = rows_in journal.now in
+        Compared (transition net settings) rs result × ((start.row < result.row) ⊎ (result.same ≡ false))
+    }
 {
     let at = start.at;
     let minute = minute_of(&journal[at..]);
@@ -152,12 +169,16 @@ pub fn compare_rows(
     journal: &[u32],
     end: usize,
 ) -> Reached
-    ghost { Network × List Row }
-    requires* journal_value { λ α.
+    requires {
         let net = network_of lengths.now headings.now flags.now from.now to.now from_side.now to_side.now forward.now backward.now window_counts.now window_firsts.now window_lasts.now in
-        ⌜ (net, rows_in journal.now) ≡ α ⌝ }
-    requires* fact { λ (net, rs). ⌜ (checked net ≡ Checked.Accepted) × Replayable (known_count net) rs journal.now end ⌝ }
-    ensures* { λ (net, rs) r. ⌜ Compared (transition net settings) rs r × ((r.at ≡ end) ⊎ (r.same ≡ false)) ⌝ }
+        let rs = rows_in journal.now in
+        (checked net ≡ Checked.Accepted) × Replayable (known_count net) rs journal.now end
+    }
+    ensures {
+        let net = network_of lengths.now headings.now flags.now from.now to.now from_side.now to_side.now forward.now backward.now window_counts.now window_firsts.now window_lasts.now in
+        let rs = rows_in journal.now in
+        Compared (transition net settings) rs result × ((result.at ≡ end) ⊎ (result.same ≡ false))
+    }
 {
     let mut reached = Reached {
         row: 0,

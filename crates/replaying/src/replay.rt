@@ -14,7 +14,7 @@ use network::check::{Checked, check_network};
 use transition::step::{Settings, settings_fit};
 
 // What replaying answers: every row is what feeding gives; the number of the first row whose words differ from that; or a refusal's number.
-#[derive(Drop)]
+#[derive(Clone, Copy)]
 pub enum Replayed {
     Clean,
     Differs(u32),
@@ -38,10 +38,14 @@ fn replay_journal(
     settings: Settings,
     journal: &[u32],
 ) -> Replayed
-    ghost net: { Network }
-    requires window_lasts_value { network_of lengths.now headings.now flags.now from.now to.now from_side.now to_side.now forward.now backward.now window_counts.now window_firsts.now window_lasts.now ≡ net }
-    requires net_value { checked net ≡ Checked.Accepted }
-    ensures { result ≡ replay_read none (known_count net) (transition net settings) (read_journal journal.now) }
+    requires {
+        let net = network_of lengths.now headings.now flags.now from.now to.now from_side.now to_side.now forward.now backward.now window_counts.now window_firsts.now window_lasts.now in
+        checked net ≡ Checked.Accepted
+    }
+    ensures {
+        let net = network_of lengths.now headings.now flags.now from.now to.now from_side.now to_side.now forward.now backward.now window_counts.now window_firsts.now window_lasts.now in
+        result ≡ replay_read none (known_count net) (transition net settings) (read_journal journal.now)
+    }
 {
     let found = read_journal(journal);
     match found {

@@ -24,10 +24,11 @@ pub fn row_same(
     own: &[u32],
     previous: &[u32],
 ) -> bool
-    ghost t: { Track }
-    requires links_value { track_in lengths.now headings.now flags.now heads.now links.now ≡ t }
-    requires records_stand { RecordsStand t own.now previous.now }
-    ensures { result ≡ same_row (step_on t settings) own.now previous.now }
+    requires { let t = track_in lengths.now headings.now flags.now heads.now links.now in RecordsStand t own.now previous.now }
+    ensures {
+        let t = track_in lengths.now headings.now flags.now heads.now links.now in
+        result ≡ same_row (step_on t settings) own.now previous.now
+    }
 {
     let count = candidate_count(own);
     let before = before_count(own);

@@ -80,12 +80,13 @@ pub fn states_between(
     goal: usize,
     states: &mut [u32],
 ) -> Listing
-    ghost g: { Graph }
-    requires links_value { graph_in lengths.now heads.now links.now ≡ g }
-    requires sound_graph { SoundGraph g }
-    requires start_bound { start < 2 * element_count g }
-    ensures value { result ≡ end_answer g start goal (length states.old) }
-    ensures states_after { states.new ≡ states_stored result (states_of_end (2 * start) (4 * element_count g) (searched g start goal)) states.old }
+    requires sound_graph { let g = graph_in lengths.now heads.now links.now in SoundGraph g }
+    requires start_bound { let g = graph_in lengths.now heads.now links.now in start < 2 * element_count g }
+    ensures value { let g = graph_in lengths.now heads.now links.now in result ≡ end_answer g start goal (length states.old) }
+    ensures states_after {
+        let g = graph_in lengths.now heads.now links.now in
+        states.new ≡ states_stored result (states_of_end (2 * start) (4 * element_count g) (searched g start goal)) states.old
+    }
 {
     let mut costs = no_costs();
     let mut preds = no_preds();

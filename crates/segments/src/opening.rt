@@ -73,12 +73,17 @@ fn begin_at(
     candidates: usize,
     room: usize,
 ) -> Building
-    ghost net: { Network }
-    requires window_lasts_value { network_of lengths.now headings.now flags.now from.now to.now from_side.now to_side.now forward.now backward.now
-        window_counts.now window_firsts.now window_lasts.now ≡ net }
-    requires net_value { checked net ≡ Checked.Accepted }
+    requires net_value {
+        let net = network_of lengths.now headings.now flags.now from.now to.now from_side.now to_side.now forward.now backward.now
+        window_counts.now window_firsts.now window_lasts.now in
+        checked net ≡ Checked.Accepted
+    }
     requires scoring { Scoring journal.now standing used place candidates }
-    ensures { OpenedAt net journal.now room result }
+    ensures {
+        let net = network_of lengths.now headings.now flags.now from.now to.now from_side.now to_side.now forward.now backward.now
+        window_counts.now window_firsts.now window_lasts.now in
+        OpenedAt net journal.now room result
+    }
 {
     let best = best_previous(&journal[place..], candidates);
     let start = Back {
@@ -136,11 +141,16 @@ fn begin_read(
     journal: &[u32],
     room: usize,
 ) -> Building
-    ghost net: { Network }
-    requires window_lasts_value { network_of lengths.now headings.now flags.now from.now to.now from_side.now to_side.now forward.now backward.now
-        window_counts.now window_firsts.now window_lasts.now ≡ net }
-    requires net_value { checked net ≡ Checked.Accepted }
-    ensures { Opened net journal.now room result }
+    requires {
+        let net = network_of lengths.now headings.now flags.now from.now to.now from_side.now to_side.now forward.now backward.now
+        window_counts.now window_firsts.now window_lasts.now in
+        checked net ≡ Checked.Accepted
+    }
+    ensures {
+        let net = network_of lengths.now headings.now flags.now from.now to.now from_side.now to_side.now forward.now backward.now
+        window_counts.now window_firsts.now window_lasts.now in
+        Opened net journal.now room result
+    }
 {
     let found = read_journal(journal);
     match found {

@@ -20,7 +20,7 @@ use transition::step::Settings;
 
 // What the checks found; the predecessor's number and the row's, how many candidates the predecessor has and how many pairs there are, and their
 // steps.
-#[derive(Drop)]
+#[derive(Clone, Copy)]
 pub struct RowSteps {
     pub checked: Checked,
     pub predecessor_row: u32,
@@ -67,13 +67,20 @@ fn steps_between(
     predecessor_row: u32,
     row: u32,
 ) -> RowSteps
-    ghost { Network × Row × Row }
-    requires* own_value { λ α.
+    requires net_value {
         let net = network_of lengths.now headings.now flags.now from.now to.now from_side.now to_side.now forward.now backward.now window_counts.now window_firsts.now window_lasts.now in
-        ⌜ (net, read_row previous.now, read_row own.now) ≡ α ⌝ }
-    requires* net_value { λ (net, p, r). ⌜ checked net ≡ Checked.Accepted ⌝ }
-    requires* fact { λ (net, p, r). ⌜ TwoRecords (known_count net) own.now previous.now ⌝ }
-    ensures* { λ (net, p, r) x. ⌜ Sized x × ((room : ℕ) → row_listed x room ≡ steps_fitted (steps_between (transition net settings r.minute) predecessor_row p row r) room) ⌝ }
+        checked net ≡ Checked.Accepted
+    }
+    requires two_records {
+        let net = network_of lengths.now headings.now flags.now from.now to.now from_side.now to_side.now forward.now backward.now window_counts.now window_firsts.now window_lasts.now in
+        TwoRecords (known_count net) own.now previous.now
+    }
+    ensures {
+        let net = network_of lengths.now headings.now flags.now from.now to.now from_side.now to_side.now forward.now backward.now window_counts.now window_firsts.now window_lasts.now in
+        let p = read_row previous.now in
+        let r = read_row own.now in
+        Sized result × ((room : ℕ) → row_listed result room ≡ steps_fitted (steps_between (transition net settings r.minute) predecessor_row p row r) room)
+    }
 {
     let mut heads = no_heads();
     let mut links = no_links();

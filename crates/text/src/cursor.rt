@@ -10,38 +10,38 @@ use crate::word::{Word, next_word, same_bytes};
 
 // Where reading stands: the place behind the words that were read, and how many they are, up to 4,294,967,295. Where the last of them could not be
 // read, nothing more is read.
-#[derive(Drop)]
+#[derive(Clone, Copy)]
 pub struct Cursor {
     pub at: usize,
     pub words: u32,
     pub bad: bool,
 }
 
-#[derive(Drop)]
+#[derive(Clone, Copy)]
 pub struct TakenNumber {
     pub cursor: Cursor,
     pub value: u32,
 }
 
-#[derive(Drop)]
+#[derive(Clone, Copy)]
 pub struct TakenFloat {
     pub cursor: Cursor,
     pub value: f64,
 }
 
-#[derive(Drop)]
+#[derive(Clone, Copy)]
 pub struct TakenKeyword {
     pub cursor: Cursor,
     pub value: Keyword,
 }
 
-#[derive(Drop)]
+#[derive(Clone, Copy)]
 pub struct TakenWord {
     pub cursor: Cursor,
     pub found: bool,
 }
 
-#[derive(Drop)]
+#[derive(Clone, Copy)]
 pub struct TakenSlice {
     pub cursor: Cursor,
     pub value: Slice,

@@ -9,7 +9,7 @@ use crate::word::same_bytes;
 use journal::float::float_at;
 
 // A float, or a word that is none.
-#[derive(Drop)]
+#[derive(Clone, Copy)]
 pub enum Float64 {
     Value(f64),
     Unreadable,

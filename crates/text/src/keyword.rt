@@ -5,7 +5,7 @@ ghost use Rattle.text.specs.inner.Keywords.{keyword_of, slice_of, place_in};
 
 use crate::word::{next_word, same_bytes};
 
-#[derive(Drop)]
+#[derive(Clone, Copy)]
 pub enum Keyword {
     Network,
     Settings,
@@ -32,7 +32,7 @@ pub enum Keyword {
     Unknown,
 }
 
-#[derive(Drop)]
+#[derive(Clone, Copy)]
 pub enum Slice {
     Lengths,
     Headings,

@@ -3,7 +3,7 @@ ghost use Rattle.std.specs.Prelude.{◌≡◌, ◌≤◌, ◌<◌};
 ghost use Rattle.text.specs.inner.Numbers.{value_below, number_fitted, number_of, hex_word_of, figure as Numbers·figure};
 
 // A number of 32 bits, or a word that is none.
-#[derive(Drop)]
+#[derive(Clone, Copy)]
 pub enum Number {
     Value(u32),
     Unreadable,

@@ -4,7 +4,7 @@ ghost use Rattle.text.specs.inner.Bytes.{same};
 ghost use Rattle.text.specs.inner.Words.{gap, word_length, next_word, breaks as Words·breaks, commented as Words·commented};
 
 // Where a word starts and ends; one without bytes where no word is left.
-#[derive(Drop)]
+#[derive(Clone, Copy)]
 pub struct Word {
     pub first: usize,
     pub end: usize,
