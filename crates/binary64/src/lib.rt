@@ -1,4 +1,6 @@
 // Range tests on f64, and the two infinities. The laws of rounded sums that the other crates cite are in proofs/.
+#![tactic(auto)]
+
 ghost use Rattle.std.specs.Prelude.{◌≡◌, true, false};
 ghost use Rattle.std.specs.Float.{inf};
 ghost use Rattle.binary64.specs.Values.{is_minus_infinity};

@@ -1,4 +1,6 @@
 // Reads the case language from standard input and answers every line of it.
+#![tactic(auto)]
+
 mod building;
 mod collapsing;
 mod held;

@@ -1,4 +1,6 @@
 // Calls on a journal that only read it: closing, and reading a row back.
+#![tactic(auto)]
+
 pub mod close;
 pub mod row;
 pub mod walk;

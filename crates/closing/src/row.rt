@@ -29,12 +29,10 @@ fn copy_row(
     distances: &mut [f64],
 ) -> RowRead
     requires { RecordWhole words.now }
-    ensures {
-        let b = row_buffers_of elements.old intrinsics.old near.old raw_logs.old parents.old scores.old distances.old in
+    ensures { let b = row_buffers_of elements.old intrinsics.old near.old raw_logs.old parents.old scores.old distances.old in
         let l = row_fitted b (read_row words.now) in
         (result ≡ row_answer l)
-        × (row_buffers_of elements.new intrinsics.new near.new raw_logs.new parents.new scores.new distances.new ≡ filled l b)
-    }
+        × (row_buffers_of elements.new intrinsics.new near.new raw_logs.new parents.new scores.new distances.new ≡ filled l b) }
 {
     let count = (words[0] % 32) as usize;
     let before = (words[0] / 32 % 32) as usize;

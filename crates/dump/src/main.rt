@@ -1,4 +1,6 @@
 // Reads a network, settings and fixes in the case language from standard input, and prints the used words of their journal.
+#![tactic(auto)]
+
 mod drive;
 
 use answers::memory;

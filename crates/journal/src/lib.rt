@@ -1,4 +1,6 @@
 // The journal: records of rows in 32-bit words, check 7, opening and striking.
+#![tactic(auto)]
+
 pub mod buffer;
 pub mod call;
 pub mod check;

@@ -37,10 +37,8 @@ pub fn distance_count(c: usize, p: usize) -> usize
 fn put_cell(words: &mut [u32], at: usize, c: Candidate, parent: u32, score: f64)
     requires cell_writable { let cell = record { candidate = c; parent = parent; score = score } in CellWritable cell }
     requires at_in_bounds { at + 7 ≤ length words.old }
-    ensures {
-        let cell = record { candidate = c; parent = parent; score = score } in
-        words.new ≡ sets words.old at (cell_words cell)
-    }
+    ensures { let cell = record { candidate = c; parent = parent; score = score } in
+        words.new ≡ sets words.old at (cell_words cell) }
 {
     words[at] = 0x2000_0000 + c.element + 1024 * c.near + 2048 * parent;
     put_float(words, at + 1, c.intrinsic);
@@ -51,18 +49,12 @@ fn put_cell(words: &mut [u32], at: usize, c: Candidate, parent: u32, score: f64)
 // The words of all candidates.
 fn put_cells(words: &mut [u32], fix: Candidates, parents: &[u32; 16], scores: &[f64; 16])
     requires entries16 { Entries16 fix }
-    requires by_index {
-        let cells = cells_of (candidates_in fix) parents.now scores.now in
-        (k : ℕ) → k < length cells → CellWritable (get_or cells k no_cell)
-    }
-    requires cells_in_bounds {
-        let cells = cells_of (candidates_in fix) parents.now scores.now in
-        first_cell + 7 * length cells ≤ length words.old
-    }
-    ensures {
-        let cells = cells_of (candidates_in fix) parents.now scores.now in
-        words.new ≡ sets words.old first_cell (flat cell_words cells)
-    }
+    requires by_index { let cells = cells_of (candidates_in fix) parents.now scores.now in
+        (k : ℕ) → k < length cells → CellWritable (get_or cells k no_cell) }
+    requires cells_in_bounds { let cells = cells_of (candidates_in fix) parents.now scores.now in
+        first_cell + 7 * length cells ≤ length words.old }
+    ensures { let cells = cells_of (candidates_in fix) parents.now scores.now in
+        words.new ≡ sets words.old first_cell (flat cell_words cells) }
 {
     for k in 0..fix.count {
         let c = own_candidate(fix, k);
@@ -95,22 +87,14 @@ fn put_row(
     scores: &[f64; 16],
     p: usize,
 ) -> usize
-    requires entries16 {
-        let row = row_of (fix_in fix distances.now) parents.now scores.now p in
-        Entries16 fix × RowWritable row
-    }
-    requires row_in_bounds {
-        let row = row_of (fix_in fix distances.now) parents.now scores.now p in
-        (length (record_of place row) ≤ length words.old) × (place < 268435456)
-    }
-    ensures fact_1 {
-        let row = row_of (fix_in fix distances.now) parents.now scores.now p in
-        result ≡ length (record_of place row)
-    }
-    ensures fact_2 {
-        let row = row_of (fix_in fix distances.now) parents.now scores.now p in
-        words.new ≡ sets words.old 0 (record_of place row)
-    }
+    requires entries16 { let row = row_of (fix_in fix distances.now) parents.now scores.now p in
+        Entries16 fix × RowWritable row }
+    requires row_in_bounds { let row = row_of (fix_in fix distances.now) parents.now scores.now p in
+        (length (record_of place row) ≤ length words.old) × (place < 268435456) }
+    ensures fact_1 { let row = row_of (fix_in fix distances.now) parents.now scores.now p in
+        result ≡ length (record_of place row) }
+    ensures fact_2 { let row = row_of (fix_in fix distances.now) parents.now scores.now p in
+        words.new ≡ sets words.old 0 (record_of place row) }
 {
     let n = fix.count;
     let length = record_length(n, p);
@@ -134,19 +118,13 @@ pub fn add_row(
     scores: &[f64; 16],
     p: usize,
 )
-    requires entries16 {
-        let row = row_of (fix_in fix distances.now) parents.now scores.now p in
-        Entries16 fix × RowWritable row
-    }
-    requires row_in_bounds {
-        let row = row_of (fix_in fix distances.now) parents.now scores.now p in
-        (used + length (record_of place row) ≤ length journal.old) × (used + length (record_of place row) < 268435456)
-    }
+    requires entries16 { let row = row_of (fix_in fix distances.now) parents.now scores.now p in
+        Entries16 fix × RowWritable row }
+    requires row_in_bounds { let row = row_of (fix_in fix distances.now) parents.now scores.now p in
+        (used + length (record_of place row) ≤ length journal.old) × (used + length (record_of place row) < 268435456) }
     requires place_le_used { place ≤ used }
-    ensures {
-        let row = row_of (fix_in fix distances.now) parents.now scores.now p in
-        journal.new ≡ put journal.old used (record_of place row)
-    }
+    ensures { let row = row_of (fix_in fix distances.now) parents.now scores.now p in
+        journal.new ≡ put journal.old used (record_of place row) }
 {
     let n = put_row(
         &mut journal[used..],

@@ -77,16 +77,12 @@ pub fn are_joined(
     sources: Nodes,
     targets: Nodes,
 ) -> bool
-    requires {
-        let rs = relations_of from.now to.now from_side.now to_side.now forward.now backward.now in
+    requires { let rs = relations_of from.now to.now from_side.now to_side.now forward.now backward.now in
         let w = windows_of window_counts.now window_firsts.now window_lasts.now in
-        RelationsFit rs × WindowsFit w
-    }
-    ensures {
-        let rs = relations_of from.now to.now from_side.now to_side.now forward.now backward.now in
+        RelationsFit rs × WindowsFit w }
+    ensures { let rs = relations_of from.now to.now from_side.now to_side.now forward.now backward.now in
         let w = windows_of window_counts.now window_firsts.now window_lasts.now in
-        result ≡ joined (links_of elements (relations_at w minute rs)) sources targets
-    }
+        result ≡ joined (links_of elements (relations_at w minute rs)) sources targets }
 {
     for k in 0..from.len() {
         let r = relation_at(

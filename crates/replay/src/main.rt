@@ -1,4 +1,6 @@
 // Reads a network, settings and a journal in the case language from standard input, and prints the first row that feeding would not write, or clean.
+#![tactic(auto)]
+
 mod drive;
 mod held;
 

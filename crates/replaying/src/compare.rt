@@ -39,20 +39,14 @@ fn compare_stretch(
     end: usize,
     start: Reached,
 ) -> Reached
-    requires track_fits {
-        let t = track_in lengths.now headings.now flags.now heads.now links.now in
+    requires track_fits { let t = track_in lengths.now headings.now flags.now heads.now links.now in
         let rs = rows_in journal.now in
-        TrackFits t × Replayable (element_count t.graph) rs journal.now end
-    }
-    requires stands_at {
+        TrackFits t × Replayable (element_count t.graph) rs journal.now end }
+    requires stands_at { let rs = rows_in journal.now in
+        StandsAt rs start.row start.at × (start.at < end) × ((row_number rs start.row).minute ≡ minute) }
+    ensures { let t = track_in lengths.now headings.now flags.now heads.now links.now in
         let rs = rows_in journal.now in
-        StandsAt rs start.row start.at × (start.at < end) × ((row_number rs start.row).minute ≡ minute)
-    }
-    ensures {
-        let t = track_in lengths.now headings.now flags.now heads.now links.now in
-        let rs = rows_in journal.now in
-        Stretch (step_on t settings) minute rs start.row result
-    }
+        Stretch (step_on t settings) minute rs start.row result }
 {
     let mut at = start.at;
     let mut row = start.row;
@@ -111,21 +105,15 @@ fn compare_minute(
     end: usize,
     start: Reached,
 ) -> Reached
-    requires fact {
-        let net = network_of lengths.now headings.now flags.now from.now to.now from_side.now to_side.now forward.now backward.now window_counts.now window_firsts.now window_lasts.now in
+    requires fact { let net = network_of lengths.now headings.now flags.now from.now to.now from_side.now to_side.now forward.now backward.now window_counts.now window_firsts.now window_lasts.now in
         let rs = rows_in journal.now in
-        (checked net ≡ Checked.Accepted) × Replayable (known_count net) rs journal.now end
-    }
-    requires compared {
-        let net = network_of lengths.now headings.now flags.now from.now to.now from_side.now to_side.now forward.now backward.now window_counts.now window_firsts.now window_lasts.now in
+        (checked net ≡ Checked.Accepted) × Replayable (known_count net) rs journal.now end }
+    requires compared { let net = network_of lengths.now headings.now flags.now from.now to.now from_side.now to_side.now forward.now backward.now window_counts.now window_firsts.now window_lasts.now in
         let rs = rows_in journal.now in
-        Compared (transition net settings) rs start × (start.at < end)
-    }
-    ensures {
-        let net = network_of lengths.now headings.now flags.now from.now to.now from_side.now to_side.now forward.now backward.now window_counts.now window_firsts.now window_lasts.now in
+        Compared (transition net settings) rs start × (start.at < end) }
+    ensures { let net = network_of lengths.now headings.now flags.now from.now to.now from_side.now to_side.now forward.now backward.now window_counts.now window_firsts.now window_lasts.now in
         let rs = rows_in journal.now in
-        Compared (transition net settings) rs result × ((start.row < result.row) ⊎ (result.same ≡ false))
-    }
+        Compared (transition net settings) rs result × ((start.row < result.row) ⊎ (result.same ≡ false)) }
 {
     let at = start.at;
     let minute = minute_of(&journal[at..]);
@@ -169,16 +157,12 @@ pub fn compare_rows(
     journal: &[u32],
     end: usize,
 ) -> Reached
-    requires {
-        let net = network_of lengths.now headings.now flags.now from.now to.now from_side.now to_side.now forward.now backward.now window_counts.now window_firsts.now window_lasts.now in
+    requires { let net = network_of lengths.now headings.now flags.now from.now to.now from_side.now to_side.now forward.now backward.now window_counts.now window_firsts.now window_lasts.now in
         let rs = rows_in journal.now in
-        (checked net ≡ Checked.Accepted) × Replayable (known_count net) rs journal.now end
-    }
-    ensures {
-        let net = network_of lengths.now headings.now flags.now from.now to.now from_side.now to_side.now forward.now backward.now window_counts.now window_firsts.now window_lasts.now in
+        (checked net ≡ Checked.Accepted) × Replayable (known_count net) rs journal.now end }
+    ensures { let net = network_of lengths.now headings.now flags.now from.now to.now from_side.now to_side.now forward.now backward.now window_counts.now window_firsts.now window_lasts.now in
         let rs = rows_in journal.now in
-        Compared (transition net settings) rs result × ((result.at ≡ end) ⊎ (result.same ≡ false))
-    }
+        Compared (transition net settings) rs result × ((result.at ≡ end) ⊎ (result.same ≡ false)) }
 {
     let mut reached = Reached {
         row: 0,

@@ -38,14 +38,10 @@ fn replay_journal(
     settings: Settings,
     journal: &[u32],
 ) -> Replayed
-    requires {
-        let net = network_of lengths.now headings.now flags.now from.now to.now from_side.now to_side.now forward.now backward.now window_counts.now window_firsts.now window_lasts.now in
-        checked net ≡ Checked.Accepted
-    }
-    ensures {
-        let net = network_of lengths.now headings.now flags.now from.now to.now from_side.now to_side.now forward.now backward.now window_counts.now window_firsts.now window_lasts.now in
-        result ≡ replay_read none (known_count net) (transition net settings) (read_journal journal.now)
-    }
+    requires { let net = network_of lengths.now headings.now flags.now from.now to.now from_side.now to_side.now forward.now backward.now window_counts.now window_firsts.now window_lasts.now in
+        checked net ≡ Checked.Accepted }
+    ensures { let net = network_of lengths.now headings.now flags.now from.now to.now from_side.now to_side.now forward.now backward.now window_counts.now window_firsts.now window_lasts.now in
+        result ≡ replay_read none (known_count net) (transition net settings) (read_journal journal.now) }
 {
     let found = read_journal(journal);
     match found {

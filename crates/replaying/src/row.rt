@@ -25,10 +25,8 @@ pub fn row_same(
     previous: &[u32],
 ) -> bool
     requires { let t = track_in lengths.now headings.now flags.now heads.now links.now in RecordsStand t own.now previous.now }
-    ensures {
-        let t = track_in lengths.now headings.now flags.now heads.now links.now in
-        result ≡ same_row (step_on t settings) own.now previous.now
-    }
+    ensures { let t = track_in lengths.now headings.now flags.now heads.now links.now in
+        result ≡ same_row (step_on t settings) own.now previous.now }
 {
     let count = candidate_count(own);
     let before = before_count(own);

@@ -83,10 +83,8 @@ pub fn states_between(
     requires sound_graph { let g = graph_in lengths.now heads.now links.now in SoundGraph g }
     requires start_bound { let g = graph_in lengths.now heads.now links.now in start < 2 * element_count g }
     ensures value { let g = graph_in lengths.now heads.now links.now in result ≡ end_answer g start goal (length states.old) }
-    ensures states_after {
-        let g = graph_in lengths.now heads.now links.now in
-        states.new ≡ states_stored result (states_of_end (2 * start) (4 * element_count g) (searched g start goal)) states.old
-    }
+    ensures states_after { let g = graph_in lengths.now heads.now links.now in
+        states.new ≡ states_stored result (states_of_end (2 * start) (4 * element_count g) (searched g start goal)) states.old }
 {
     let mut costs = no_costs();
     let mut preds = no_preds();

@@ -45,10 +45,8 @@ pub fn parent_of(words: &[u32], i: usize) -> u32
 // The row's minute and candidates, by value.
 pub fn candidates_at(words: &[u32], count: usize) -> Candidates
     requires { RecordStands words.now count × (count ≤ 16) }
-    ensures {
-        let r = read_row words.now in
-        Entries16 result × (result.minute ≡ r.minute) × (candidates_in result ≡ (fix_of r).candidates)
-    }
+    ensures { let r = read_row words.now in
+        Entries16 result × (result.minute ≡ r.minute) × (candidates_in result ≡ (fix_of r).candidates) }
 {
     let mut list = no_candidates();
     for i in 0..count {

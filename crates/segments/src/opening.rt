@@ -73,17 +73,13 @@ fn begin_at(
     candidates: usize,
     room: usize,
 ) -> Building
-    requires net_value {
-        let net = network_of lengths.now headings.now flags.now from.now to.now from_side.now to_side.now forward.now backward.now
+    requires net_value { let net = network_of lengths.now headings.now flags.now from.now to.now from_side.now to_side.now forward.now backward.now
         window_counts.now window_firsts.now window_lasts.now in
-        checked net ≡ Checked.Accepted
-    }
+        checked net ≡ Checked.Accepted }
     requires scoring { Scoring journal.now standing used place candidates }
-    ensures {
-        let net = network_of lengths.now headings.now flags.now from.now to.now from_side.now to_side.now forward.now backward.now
+    ensures { let net = network_of lengths.now headings.now flags.now from.now to.now from_side.now to_side.now forward.now backward.now
         window_counts.now window_firsts.now window_lasts.now in
-        OpenedAt net journal.now room result
-    }
+        OpenedAt net journal.now room result }
 {
     let best = best_previous(&journal[place..], candidates);
     let start = Back {
@@ -141,16 +137,12 @@ fn begin_read(
     journal: &[u32],
     room: usize,
 ) -> Building
-    requires {
-        let net = network_of lengths.now headings.now flags.now from.now to.now from_side.now to_side.now forward.now backward.now
+    requires { let net = network_of lengths.now headings.now flags.now from.now to.now from_side.now to_side.now forward.now backward.now
         window_counts.now window_firsts.now window_lasts.now in
-        checked net ≡ Checked.Accepted
-    }
-    ensures {
-        let net = network_of lengths.now headings.now flags.now from.now to.now from_side.now to_side.now forward.now backward.now
+        checked net ≡ Checked.Accepted }
+    ensures { let net = network_of lengths.now headings.now flags.now from.now to.now from_side.now to_side.now forward.now backward.now
         window_counts.now window_firsts.now window_lasts.now in
-        Opened net journal.now room result
-    }
+        Opened net journal.now room result }
 {
     let found = read_journal(journal);
     match found {

@@ -67,20 +67,14 @@ fn steps_between(
     predecessor_row: u32,
     row: u32,
 ) -> RowSteps
-    requires net_value {
-        let net = network_of lengths.now headings.now flags.now from.now to.now from_side.now to_side.now forward.now backward.now window_counts.now window_firsts.now window_lasts.now in
-        checked net ≡ Checked.Accepted
-    }
-    requires two_records {
-        let net = network_of lengths.now headings.now flags.now from.now to.now from_side.now to_side.now forward.now backward.now window_counts.now window_firsts.now window_lasts.now in
-        TwoRecords (known_count net) own.now previous.now
-    }
-    ensures {
-        let net = network_of lengths.now headings.now flags.now from.now to.now from_side.now to_side.now forward.now backward.now window_counts.now window_firsts.now window_lasts.now in
+    requires net_value { let net = network_of lengths.now headings.now flags.now from.now to.now from_side.now to_side.now forward.now backward.now window_counts.now window_firsts.now window_lasts.now in
+        checked net ≡ Checked.Accepted }
+    requires two_records { let net = network_of lengths.now headings.now flags.now from.now to.now from_side.now to_side.now forward.now backward.now window_counts.now window_firsts.now window_lasts.now in
+        TwoRecords (known_count net) own.now previous.now }
+    ensures { let net = network_of lengths.now headings.now flags.now from.now to.now from_side.now to_side.now forward.now backward.now window_counts.now window_firsts.now window_lasts.now in
         let p = read_row previous.now in
         let r = read_row own.now in
-        Sized result × ((room : ℕ) → row_listed result room ≡ steps_fitted (steps_between (transition net settings r.minute) predecessor_row p row r) room)
-    }
+        Sized result × ((room : ℕ) → row_listed result room ≡ steps_fitted (steps_between (transition net settings r.minute) predecessor_row p row r) room) }
 {
     let mut heads = no_heads();
     let mut links = no_links();

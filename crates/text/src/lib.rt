@@ -1,4 +1,6 @@
 // The words of the case language: found in a text, read and written.
+#![tactic(auto)]
+
 pub mod cursor;
 pub mod float;
 pub mod keyword;

@@ -1,0 +1,11 @@
+-- `binary64::in_range` meets its contract.
+use Rattle.binary64.specs.Ranges.{in_range}
+use Rattle.binary64.proofs.in_range.Goals as goal
+
+pub returns-then-low-x : goal.returns-then-low-x
+unfolding in_range
+returns-then-low-x c = rw c.if-low-x.true
+
+pub returns : goal.returns
+unfolding in_range
+returns c = rw c.if-low-x.false

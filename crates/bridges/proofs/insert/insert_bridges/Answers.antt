@@ -1,0 +1,24 @@
+-- `bridges::insert::insert_bridges` meets its contract.
+use mathlib.Core.Path.{ap, sym, ◌∙◌}
+use Rattle.bridges.specs.inner.Found.{bridges_of}
+use Rattle.bridges.proofs.Joined.{joined-none}
+use borrow.Author.Rules.{rules}
+use Rattle.bridges.proofs.insert.insert_bridges.Goals as goal
+
+pub returns-then-are_joined : goal.returns-then-are_joined
+returns-then-are_joined c = let told = rw (c.element_nodes-sources.ensures, c.element_nodes-targets.ensures, c.wide.ensures.0, c.wide-2.ensures.0) at (sym c.are_joined.ensures ∙ c.if-are_joined.true) in
+    c.no_bridges.ensures ∙ ap bridges_of (sym (joined-none _ c.requires.sound_graph _ _ told))
+
+pub compile_network-requires : goal.compile_network-requires
+compile_network-requires c =
+    record {
+      relations_fit = c.requires.relations_fit;
+      lengths_bound = c.requires.sound_graph.few;
+      fact_2 = (c.no_heads-heads.ensures, c.no_links-links.ensures);
+    }
+
+pub bridges_between-requires : goal.bridges_between-requires
+bridges_between-requires c = rw c.compile_network.ensures c.requires.sound_graph
+
+pub returns : goal.returns
+returns c = rw c.compile_network.ensures at c.bridges_between.ensures

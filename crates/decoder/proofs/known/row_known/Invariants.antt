@@ -1,0 +1,20 @@
+-- What the loop of `decoder::known::row_known` keeps.
+use native.Mathlib.Omega.{arith}
+use mathlib.Core.Path.{◌≡◌, refl, ◌∙◌}
+use mathlib.Core.Bool.{true}
+use Prim.Native.Nat.{◌+◌, ◌*◌, ◌%◌, ◌≤◌, ◌-◌}
+use lib.ListN.{get_or}
+use lib.Dec.{ltb}
+use borrow.Author.Tests.{lt-ltb, le-ltb}
+use Rattle.lists.specs.Loops.{every_below}
+use Rattle.journal.specs.Record.{first_cell, head_count}
+use Rattle.lists.proofs.Loops.{every-none, every-turn, every-done, every-stop}
+use Rattle.journal.proofs.RecordRead.{row-size}
+use Rattle.decoder.proofs.KnownRows.{row-tested}
+use Rattle.decoder.proofs.known.row_known.Given as goal
+
+abbrev pub invariant-loop-i : goal.invariant-loop-i
+invariant-loop-i l = (l.c ≡ head_count (get_or l.words 0 0)) × (l.i ≤ l.c) × (every_below l.i (λ j. ltb (get_or l.words (first_cell + 7 * j) 0 % 1024) l.known) ≡ true)
+
+abbrev pub decreases-loop-i : goal.decreases-loop-i
+decreases-loop-i l = l.c - l.i

@@ -1,0 +1,7 @@
+-- `host::fixes::box_feed` meets its contract.
+use borrow.Author.Rules.{rules}
+use Rattle.host.proofs.fixes.box_feed.Goals as goal
+
+pub returns : goal.returns
+returns c = let below = c.feed-answer.ensures.fact in
+    (rw below.0 at c.of_answer.ensures, below.1)

@@ -1,0 +1,7 @@
+-- `host::routes::box_check_network` meets its contract.
+use borrow.Author.Rules.{rules}
+use Rattle.host.proofs.routes.box_check_network.Goals as goal
+
+pub returns : goal.returns
+returns c = let below = c.check_network-answer.ensures in
+    rw (below) at c.of_checked.ensures

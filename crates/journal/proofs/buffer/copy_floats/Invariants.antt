@@ -1,0 +1,21 @@
+-- What the loop of `journal::buffer::copy_floats` keeps.
+use borrow.Author.Rules.{rules}
+use mathlib.Core.Path.{◌≡◌, refl}
+use Prim.Native.Nat.{◌+◌, ◌*◌, ◌-◌, ◌≤◌}
+use native.Mathlib.Omega.{arith}
+use native.Mathlib.Nat.{mul-zero}
+use lib.ListN.{length, length-set}
+use Rattle.journal.specs.Record.{float_at}
+use Rattle.journal.specs.inner.Buffer.{entries_stored}
+use Rattle.lists.proofs.Loops.{up_to-none, up_to-turn, up_to-done}
+use Rattle.journal.proofs.Buffers.{next_place, last-place}
+use Rattle.journal.proofs.buffer.copy_floats.Given as goal
+
+abbrev pub invariant-loop-k : goal.invariant-loop-k
+invariant-loop-k l = (l.k ≤ l.n)
+    × (length l.buffer ≡ length l.initial.buffer)
+    × (l.at ≡ l.place + l.apart * l.k)
+    × (l.buffer ≡ entries_stored l.k (λ j. float_at l.words (l.place + l.apart * j)) l.initial.buffer)
+
+abbrev pub decreases-loop-k : goal.decreases-loop-k
+decreases-loop-k l = l.n - l.k

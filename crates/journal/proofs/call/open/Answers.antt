@@ -1,0 +1,39 @@
+-- `journal::call::open` meets its contract.
+use Prim.Native.Nat.{ℕ}
+use native.Mathlib.Omega.{arith}
+use mathlib.Core.List.{List, [], ◌∷◌}
+use mathlib.Core.Path.{◌≡◌, refl}
+use borrow.Author.Rules.{rules}
+use lib.ListN.{length, set}
+use Rattle.journal.specs.declared.call.Answer.TheVariants.{Done, Refused}
+use Rattle.journal.specs.Call.{opening}
+use Rattle.journal.proofs.call.open.Goals as goal
+
+-- an empty slice
+refused : (s : List ℕ) → length s ≡ 0 → (Refused 12 ≡ (opening s).0) × (s ≡ (opening s).1)
+unfolding opening
+refused [] e = (refl, refl)
+refused (w ∷ s) e = absurd (omega arith)
+
+-- word 0
+done : (s : List ℕ) → (length s ≡ 0 → ⊥) → (Done ≡ (opening s).0) × (set s 0 0x50000001 ≡ (opening s).1)
+unfolding opening
+done [] h = absurd (h refl)
+done (w ∷ s) h = (refl, refl)
+
+pub returns-then-journal-eq0 : goal.returns-then-journal-eq0
+returns-then-journal-eq0 c =
+    record {
+      fact_1 = (refused _ c.if-journal-eq0.true).0;
+      fact_2 = (refused _ c.if-journal-eq0.true).1;
+    }
+
+pub bounds-journal-0 : goal.bounds-journal-0
+bounds-journal-0 c = omega arith
+
+pub returns : goal.returns
+returns c =
+    record {
+      fact_1 = (done _ c.if-journal-eq0.false).0;
+      fact_2 = (done _ c.if-journal-eq0.false).1;
+    }

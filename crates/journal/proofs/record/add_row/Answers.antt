@@ -1,0 +1,31 @@
+-- `journal::record::add_row` meets its contract.
+use native.Mathlib.Omega.{arith}
+use borrow.Author.Rules.{rules}
+use Rattle.journal.specs.inner.Row.{row_of}
+use Rattle.journal.specs.inner.Fix.{fix_in}
+use Rattle.journal.specs.Record.{record_of}
+use Rattle.journal.proofs.Stores.{row_put}
+use Rattle.journal.proofs.record.add_row.Goals as goal
+
+pub offset_bounds-journal-used : goal.offset_bounds-journal-used
+offset_bounds-journal-used c = omega arith
+
+pub slice_bounds-put_row-count : goal.slice_bounds-put_row-count
+slice_bounds-put_row-count c = omega arith
+
+pub overflow_add-end : goal.overflow_add-end
+overflow_add-end c = omega arith
+
+pub overflow_cast-journal : goal.overflow_cast-journal
+overflow_cast-journal c = omega arith
+
+pub overflow_add-journal : goal.overflow_add-journal
+overflow_add-journal c = omega arith
+
+pub bounds-journal-0 : goal.bounds-journal-0
+unfolding record_of
+bounds-journal-0 c = omega (arith, c.requires.row_in_bounds, c.put_row-n.ensures.fact_1)
+
+pub returns : goal.returns
+returns c = let row = row_of (fix_in c.args.fix c.args.distances.now) c.args.parents.now c.args.scores.now c.args.p in
+    row_put c.args.journal.now _ (record_of c.args.place row) c.args.used _ (omega arith) c.put_row-n.ensures.fact_2 c.put_row-n.ensures.fact_1

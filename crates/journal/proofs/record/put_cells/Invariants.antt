@@ -1,0 +1,22 @@
+-- What the loop of `journal::record::put_cells` keeps.
+use Prim.Native.Nat.{◌-◌, ◌≤◌}
+use native.Mathlib.Omega.{arith}
+use mathlib.Core.Path.{◌≡◌, refl, ◌∙◌}
+use lib.Seq.{sets, take-length}
+use lib.ListN.{length, take}
+use Rattle.journal.specs.Record.{first_cell, cell_words}
+use Rattle.journal.specs.inner.Row.{cells_of}
+use Rattle.journal.specs.inner.Fix.{candidates_in}
+use Rattle.journal.specs.Lists.{flat}
+use Rattle.journal.proofs.Gathered.{count-in}
+use Rattle.journal.proofs.Stores.{cells-many, cell-narrow, cells-turn}
+use Rattle.journal.proofs.record.put_cells.Given as goal
+
+abbrev pub invariant-loop-k : goal.invariant-loop-k
+invariant-loop-k l = (l.k-end ≡ l.fix.count)
+    × (l.k ≤ l.k-end)
+    × (length l.words ≡ length l.initial.words)
+    × (l.words ≡ sets l.initial.words first_cell (flat cell_words (take l.k (cells_of (candidates_in l.fix) l.parents l.scores))))
+
+abbrev pub decreases-loop-k : goal.decreases-loop-k
+decreases-loop-k l = l.k-end - l.k

@@ -1,0 +1,18 @@
+-- What the loop of `journal::record::put_distances` keeps.
+use Prim.Native.Nat.{◌+◌, ◌-◌, ◌≤◌}
+use native.Mathlib.Numerals.{add-one}
+use native.Mathlib.Omega.{arith}
+use mathlib.Core.Path.{◌≡◌, refl, ◌∙◌}
+use lib.Ieee.{nan}
+use lib.Seq.{sets, take-length}
+use lib.ListN.{length, take, length-set}
+use Rattle.journal.specs.Record.{float_words}
+use Rattle.journal.specs.Lists.{flat}
+use Rattle.journal.proofs.Stores.{stored-turn}
+use Rattle.journal.proofs.record.put_distances.Given as goal
+
+abbrev pub invariant-loop-k : goal.invariant-loop-k
+invariant-loop-k l = (l.k ≤ l.n) × (length l.words ≡ length l.initial.words) × (l.words ≡ sets l.initial.words (l.at + 1) (flat float_words (take l.k l.distances)))
+
+abbrev pub decreases-loop-k : goal.decreases-loop-k
+decreases-loop-k l = l.n - l.k

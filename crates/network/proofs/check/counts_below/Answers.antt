@@ -1,0 +1,25 @@
+-- `network::check::counts_below` meets its contract.
+use mathlib.Core.Path.{◌≡◌, refl, sym}
+use Prim.Native.Nat.{◌≤◌, ◌-◌}
+use native.Mathlib.Omega.{arith}
+use lib.ListN.{length, get_or}
+use lib.Dec.{leb}
+use borrow.Author.Rules.{rules}
+use Rattle.lists.specs.Loops.{every_below}
+use Rattle.lists.proofs.Loops.{every-none, every-kept, every-all-kept}
+use Rattle.network.proofs.check.counts_below.Goals as goal
+
+pub loop-k-init : goal.loop-k-init
+loop-k-init c = (refl, omega arith, sym (every-none _))
+
+pub overflow_step-k : goal.overflow_step-k
+overflow_step-k c = omega arith
+
+pub loop-k-smaller : goal.loop-k-smaller
+loop-k-smaller c = omega arith
+
+pub loop-k-preserved : goal.loop-k-preserved
+loop-k-preserved c = (refl, omega arith, every-kept _ _ c.loop-k.invariant.2 c.both-ok.ensures)
+
+pub returns : goal.returns
+returns c = every-all-kept _ _ _ c.loop-k.invariant.2 (omega arith)

@@ -1,0 +1,6 @@
+-- `network::joined::element_nodes` meets its contract.
+use borrow.Author.Rules.{rules}
+use Rattle.network.proofs.joined.element_nodes.Goals as goal
+
+pub returns : goal.returns
+returns c = rw (c.node_of.ensures, c.node_of-2.ensures)

@@ -1,0 +1,9 @@
+-- `network::link::node_of` meets its contract.
+use mathlib.Core.Path.{refl}
+use borrow.Author.Rules.{rules}
+use Rattle.network.specs.Graph.{node}
+use Rattle.network.proofs.link.node_of.Goals as goal
+
+pub returns : goal.returns
+unfolding node
+returns c = refl

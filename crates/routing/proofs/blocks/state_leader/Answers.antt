@@ -1,0 +1,12 @@
+-- `routing::blocks::state_leader` meets its contract.
+use borrow.Author.Rules.{rules}
+use Rattle.routing.specs.inner.Blocks.{key_of, state_leader}
+use Rattle.routing.proofs.blocks.state_leader.Goals as goal
+
+pub returns-then-marks-i : goal.returns-then-marks-i
+unfolding key_of state_leader
+returns-then-marks-i c = rw (c.if-marks-i.true, c.infinity.ensures)
+
+pub returns : goal.returns
+unfolding key_of state_leader
+returns c = rw c.if-marks-i.false

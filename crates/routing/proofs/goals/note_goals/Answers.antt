@@ -1,0 +1,48 @@
+-- `routing::goals::note_goals` meets its contract.
+use mathlib.Core.Path.{◌≡◌, refl, sym, ◌∙◌}
+use mathlib.Core.Logic.{⊎_elim}
+use Prim.Native.Nat.{◌-◌, ◌≤◌}
+use native.Mathlib.Omega.{arith}
+use lib.ListN.{length}
+use borrow.Author.Rules.{rules}
+use Rattle.routing.proofs.Noting.{Noting, noting-none, noting-on, noting-done, not-false}
+use Rattle.routing.proofs.goals.note_goals.Goals as goal
+
+pub loop-k-init : goal.loop-k-init
+loop-k-init c = (refl, omega arith, noting-none _ _ _ _)
+
+pub offset_bounds-goals-k : goal.offset_bounds-goals-k
+offset_bounds-goals-k c = omega arith
+
+pub bounds-goals-k : goal.bounds-goals-k
+bounds-goals-k c = omega arith
+
+pub offset_bounds-found-k : goal.offset_bounds-found-k
+offset_bounds-found-k c = omega (arith, c.requires, c.loop-k.invariant.2.kept)
+
+pub bounds-found-k : goal.bounds-found-k
+bounds-found-k c = omega (arith, c.requires, c.loop-k.invariant.2.kept)
+
+pub offset_bounds-found-k-in-loop-k : goal.offset_bounds-found-k-in-loop-k
+offset_bounds-found-k-in-loop-k c = omega (arith, c.requires, c.loop-k.invariant.2.kept)
+
+pub bounds-found-k-in-loop-k : goal.bounds-found-k-in-loop-k
+bounds-found-k-in-loop-k c = omega (arith, c.requires, c.loop-k.invariant.2.kept)
+
+pub overflow_add-waiting : goal.overflow_add-waiting
+overflow_add-waiting c = omega (arith, c.loop-k.invariant.2.few)
+
+pub overflow_step-k : goal.overflow_step-k
+overflow_step-k c = omega arith
+
+pub loop-k-smaller : goal.loop-k-smaller
+loop-k-smaller c = omega arith
+
+pub loop-k-preserved : goal.loop-k-preserved
+loop-k-preserved c = (c.loop-k.invariant.0, omega arith, ⊎_elim (λ w. noting-on _ _ _ _ _ _ _ c.loop-k.invariant.2 (omega (arith, c.loop-k-test.true, c.loop-k.invariant.0)) (omega (arith, c.loop-k-test.true, c.loop-k.invariant.0, c.requires)) c.noted_cost-known.ensures (omega (arith, w.1, c.loop-k.invariant.2.few)) (λ z. absurd (omega (arith, w.1)))) (λ w. noting-on _ _ _ _ _ _ _ c.loop-k.invariant.2 (omega (arith, c.loop-k-test.true, c.loop-k.invariant.0)) (omega (arith, c.loop-k-test.true, c.loop-k.invariant.0, c.requires)) c.noted_cost-known.ensures (omega (arith, w.1, c.loop-k.invariant.2.few)) (λ z. (omega (arith, w.1), sym c.is_reached.ensures ∙ not-false _ w.0.left))) c.if-not-is_reached.branch)
+
+pub shape_of-found : goal.shape_of-found
+shape_of-found c = c.loop-k.invariant.2.kept
+
+pub returns : goal.returns
+returns c = noting-done _ _ _ _ _ _ _ c.loop-k.invariant.2 (omega arith)

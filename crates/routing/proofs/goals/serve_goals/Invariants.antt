@@ -1,0 +1,32 @@
+-- What the loop of `routing::goals::serve_goals` keeps.
+use mathlib.Core.Path.{◌≡◌, refl, sym, ◌∙◌}
+use mathlib.Core.Bool.{true, false}
+use Prim.Native.Nat.{ℕ, ◌*◌, ◌≤◌, ◌<◌}
+use native.Mathlib.Omega.{arith}
+use lib.ListN.{length, get_or, drop}
+use lib.Ieee.{nan, inf, lt}
+use borrow.Author.Rules.{rules}
+use Rattle.network.specs.Graph.{Graph, element_count}
+use Rattle.network.specs.inner.Compiled.{graph_in}
+use Rattle.routing.specs.declared.search.Pick.TheVariants.{At}
+use Rattle.routing.specs.Search.{Search, search_of, next, search_in}
+use Rattle.routing.specs.inner.Search.{unsettled}
+use Rattle.routing.specs.inner.Blocks.{Blocks}
+use Rattle.routing.proofs.Turns.{below, turn-less}
+use Rattle.routing.proofs.Leaders.{blocks-fit}
+use Rattle.routing.proofs.Noting.{costs-all}
+use Rattle.routing.proofs.Served.{Served, served-begins, served-reached, served-none, served-on}
+use Rattle.routing.proofs.goals.serve_goals.Given as goal
+
+abbrev pub invariant-loop-waiting : goal.invariant-loop-waiting
+invariant-loop-waiting l = Blocks (4 * length l.lengths) l.costs l.marks l.leaders l.keys
+    × (length l.found ≡ length l.initial.found)
+    × ((k : ℕ) → k < length l.goals →
+    Served (graph_in l.lengths l.heads l.links) (get_or l.goals k 0)
+    (search_in (graph_in l.lengths l.heads l.links) (get_or l.goals k 0) (unsettled l.initial.marks (4 * length l.lengths)) (search_of l.initial.costs l.initial.preds l.initial.marks))
+    (search_of l.costs l.preds l.marks) (get_or l.found k nan))
+    × (l.waiting ≡ 0 → (k : ℕ) → k < length l.goals → lt (get_or l.found k nan) (inf false) ≡ true)
+    × (drop (length l.goals) l.found ≡ drop (length l.goals) l.initial.found)
+
+abbrev pub decreases-loop-waiting : goal.decreases-loop-waiting
+decreases-loop-waiting l = unsettled l.marks (4 * length l.lengths)

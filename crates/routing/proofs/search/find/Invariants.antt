@@ -1,0 +1,24 @@
+-- What the loop of `routing::search::find` keeps.
+use mathlib.Core.Path.{◌≡◌, refl, sym, ◌∙◌}
+use Prim.Native.Nat.{ℕ, ◌*◌, ◌≤◌, ◌<◌}
+use native.Mathlib.Omega.{arith}
+use lib.ListN.{length}
+use borrow.Author.Rules.{rules}
+use Rattle.network.specs.Graph.{Graph, element_count}
+use Rattle.network.specs.inner.Compiled.{graph_in}
+use Rattle.routing.specs.declared.search.Pick.TheVariants.{At}
+use Rattle.routing.specs.Search.{Search, search_of, next, search_in}
+use Rattle.routing.specs.inner.Search.{unsettled}
+use Rattle.routing.specs.inner.Blocks.{Blocks}
+use Rattle.routing.proofs.Turns.{below, turn-found, turn-less, turn_on, run_none}
+use Rattle.routing.proofs.Leaders.{blocks-fit}
+use Rattle.routing.proofs.search.find.Given as goal
+
+-- what is left to run from here is what was to run
+abbrev pub invariant-loop-s : goal.invariant-loop-s
+invariant-loop-s l = Blocks (4 * length l.lengths) l.costs l.marks l.leaders l.keys
+    × (search_in (graph_in l.lengths l.heads l.links) l.goal (unsettled l.marks (4 * length l.lengths)) (search_of l.costs l.preds l.marks)
+    ≡ search_in (graph_in l.lengths l.heads l.links) l.goal (unsettled l.initial.marks (4 * length l.lengths)) (search_of l.initial.costs l.initial.preds l.initial.marks))
+
+abbrev pub decreases-loop-s : goal.decreases-loop-s
+decreases-loop-s l = unsettled l.marks (4 * length l.lengths)

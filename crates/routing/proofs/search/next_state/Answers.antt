@@ -1,0 +1,11 @@
+-- `routing::search::next_state` meets its contract.
+use borrow.Author.Rules.{rules}
+use mathlib.Core.Bool.{true, false}
+use Rattle.routing.proofs.Leaders.{pick-entries}
+use Rattle.routing.proofs.search.next_state.Goals as goal
+
+pub returns-then-l-infinity : goal.returns-then-l-infinity
+returns-then-l-infinity c = pick-entries c.requires _ c.lead_entries-l.ensures true (rw c.infinity.ensures at c.if-l-infinity.true)
+
+pub returns-else-l-infinity : goal.returns-else-l-infinity
+returns-else-l-infinity c = pick-entries c.requires _ c.lead_entries-l.ensures false (rw c.infinity.ensures at c.if-l-infinity.false)

@@ -1,0 +1,40 @@
+-- `routing::states::write_back` meets its contract.
+use mathlib.Core.Path.{◌≡◌, refl, ◌∙◌}
+use mathlib.Core.List.{reverse_aux, reverse_aux-eq}
+use Prim.Native.Nat.{◌-◌, ◌≤◌, ◌<◌}
+use native.Mathlib.Omega.{arith}
+use lib.ListN.{length, drop, length-set}
+use borrow.Author.Rules.{rules}
+use Rattle.routing.specs.Route.{states_back}
+use Rattle.routing.proofs.Back.{write-turn, write-end}
+use Rattle.routing.proofs.states.write_back.Goals as goal
+
+pub overflow_cast-at : goal.overflow_cast-at
+overflow_cast-at c = omega arith
+
+pub loop-i-init : goal.loop-i-init
+loop-i-init c = (omega arith, c.requires.s_bound, refl, refl)
+
+pub overflow_sub-i : goal.overflow_sub-i
+overflow_sub-i c = omega arith
+
+pub bounds-states-i : goal.bounds-states-i
+bounds-states-i c = omega arith
+
+pub offset_bounds-preds-wide : goal.offset_bounds-preds-wide
+offset_bounds-preds-wide c = omega (arith, c.wide.ensures.0, c.loop-i.invariant.1, c.requires.s_bound)
+
+pub bounds-preds-wide : goal.bounds-preds-wide
+bounds-preds-wide c = rw c.wide.ensures.0 c.loop-i.invariant.1
+
+pub loop-i-smaller : goal.loop-i-smaller
+loop-i-smaller c = omega arith
+
+pub loop-i-preserved : goal.loop-i-preserved
+loop-i-preserved c = (omega arith, rw c.state_number-at.ensures (c.requires.by_index _), simp length-set c.loop-i.invariant.2, rw (c.state_number-at.ensures, c.wide.ensures.0) (write-turn _ _ _ _ c.loop-i.invariant.3 c.loop-i-test.true (omega arith)))
+
+pub shape_of-states : goal.shape_of-states
+shape_of-states c = c.loop-i.invariant.2
+
+pub returns : goal.returns
+returns c = write-end _ _ _ _ c.loop-i.invariant.3 (omega arith) ∙ reverse_aux-eq (states_back c.args.preds.now c.args.n c.args.s) (drop c.args.n c.args.states.now)

@@ -1,0 +1,19 @@
+-- What the loop of `routing::states::write_back` keeps.
+use mathlib.Core.Path.{◌≡◌, refl, ◌∙◌}
+use mathlib.Core.List.{reverse_aux, reverse_aux-eq}
+use Prim.Native.Nat.{◌-◌, ◌≤◌, ◌<◌}
+use native.Mathlib.Omega.{arith}
+use lib.ListN.{length, drop, length-set}
+use borrow.Author.Rules.{rules}
+use Rattle.routing.specs.Route.{states_back}
+use Rattle.routing.proofs.Back.{write-turn, write-end}
+use Rattle.routing.proofs.states.write_back.Given as goal
+
+abbrev pub invariant-loop-i : goal.invariant-loop-i
+invariant-loop-i l = (l.i ≤ l.n)
+    × (l.at < 4096)
+    × (length l.states ≡ length l.initial.states)
+    × (reverse_aux (states_back l.preds l.i l.at) (drop l.i l.states) ≡ reverse_aux (states_back l.preds l.n l.s) (drop l.n l.initial.states))
+
+abbrev pub decreases-loop-i : goal.decreases-loop-i
+decreases-loop-i l = l.i

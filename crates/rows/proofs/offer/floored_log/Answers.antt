@@ -1,0 +1,11 @@
+-- `rows::offer::floored_log` meets its contract.
+use lib.Ieee.{of_bits}
+use Rattle.rows.proofs.offer.floored_log.Goals as goal
+
+pub returns-then-raw_log : goal.returns-then-raw_log
+unfolding of_bits
+returns-then-raw_log c = rw c.if-raw_log.true
+
+pub returns : goal.returns
+unfolding of_bits
+returns c = rw c.if-raw_log.false

@@ -1,0 +1,19 @@
+-- What the loop of `rows::row::broken_row` keeps.
+use mathlib.Core.Path.{◌≡◌, refl, ap, ◌∙◌}
+use Prim.Native.Nat.{◌≤◌, ◌-◌}
+use native.Mathlib.Omega.{arith}
+use lib.ListN.{get_or}
+use borrow.Author.Rules.{rules}
+use Rattle.rows.specs.inner.Scoring.{Filled, broken_score}
+use Rattle.journal.specs.Row.{no_candidate}
+use Rattle.journal.specs.declared.record.Candidate.{Candidate}
+use Rattle.journal.specs.inner.Fix.{candidates_in}
+use Rattle.journal.proofs.Gathered.{count-in}
+use Rattle.rows.proofs.Filled.{filled_none, filled-turn, filled-done}
+use Rattle.rows.proofs.row.broken_row.Given as goal
+
+abbrev pub invariant-loop-i : goal.invariant-loop-i
+invariant-loop-i l = (l.i-end ≡ l.fix.count) × (l.i ≤ l.i-end) × Filled l.i (λ k. (l.best.candidate, broken_score l.best.score (get_or (candidates_in l.fix) k no_candidate).raw_log)) l.initial.parents l.initial.scores l.parents l.scores
+
+abbrev pub decreases-loop-i : goal.decreases-loop-i
+decreases-loop-i l = l.i-end - l.i

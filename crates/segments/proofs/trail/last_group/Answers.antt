@@ -1,0 +1,7 @@
+-- `segments::trail::last_group` meets its contract.
+use borrow.Author.Rules.{rules}
+use Rattle.segments.proofs.BuildGroups.{begun-by}
+use Rattle.segments.proofs.trail.last_group.Goals as goal
+
+pub returns : goal.returns
+returns c = begun-by _ _ _ c.gather_group-found.ensures c.no_bridges-none.ensures

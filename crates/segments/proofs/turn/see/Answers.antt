@@ -1,0 +1,8 @@
+-- `segments::turn::see` meets its contract.
+use Rattle.segments.specs.inner.Turn.{seen}
+use borrow.Author.Rules.{rules}
+use Rattle.segments.proofs.turn.see.Goals as goal
+
+pub returns : goal.returns
+unfolding seen
+returns c = simp (c.widen-wide.ensures, c.seek_on.ensures)

@@ -1,0 +1,15 @@
+-- What the loop of `text::number::read_whole` keeps.
+use borrow.Author.Rules.{rules}
+use native.Mathlib.Omega.{arith}
+use Prim.Native.Nat.{◌+◌, ◌-◌, ◌*◌, ◌≤◌, ◌<◌}
+use mathlib.Core.Path.{◌≡◌, refl, sym, ◌∙◌}
+use lib.ListN.{length, drop}
+use Rattle.text.specs.inner.Numbers.{value_below}
+use Rattle.text.proofs.Numbers.{next-value, whole-past, whole-over, whole-other, whole-turn}
+use Rattle.text.proofs.number.read_whole.Given as goal
+
+abbrev pub invariant-loop-k : goal.invariant-loop-k
+invariant-loop-k l = (l.k ≤ length l.bytes) × (l.value < l.limit) × (value_below l.base l.limit l.n l.bytes ≡ value_below l.base l.limit l.value (drop l.k l.bytes))
+
+abbrev pub decreases-loop-k : goal.decreases-loop-k
+decreases-loop-k l = length l.bytes - l.k

@@ -1,0 +1,17 @@
+-- What the loop of `text::word::skip_gap` keeps.
+use borrow.Author.Tests.{not-true, not-false}
+use borrow.Author.Rules.{rules}
+use Prim.Native.Nat.{◌+◌, ◌-◌}
+use mathlib.Core.Path.{◌≡◌, refl, sym, ◌∙◌}
+use mathlib.Core.Bool.{false}
+use lib.ListN.{length, drop}
+use Rattle.text.specs.inner.Words.{gap}
+use Rattle.text.proofs.Words.{gap-past, gap-stop, gap-turn}
+use Prim.Native.Nat.{◌+◌, ◌-◌}
+use Rattle.text.proofs.word.skip_gap.Given as goal
+
+abbrev pub invariant-loop-i : goal.invariant-loop-i
+invariant-loop-i l = l.at + gap false (drop l.at l.text) ≡ l.i + gap l.comment (drop l.i l.text)
+
+abbrev pub decreases-loop-i : goal.decreases-loop-i
+decreases-loop-i l = length l.text - l.i

@@ -1,0 +1,21 @@
+-- `text::word::skip_word` meets its contract.
+use borrow.Author.Rules.{rules}
+use Prim.Native.Nat.{◌+◌, ◌-◌}
+use mathlib.Core.Path.{◌≡◌, refl, sym, ◌∙◌}
+use lib.ListN.{length, drop}
+use Rattle.text.specs.inner.Words.{word_length}
+use Rattle.text.proofs.Words.{run_past, run-stop, run-turn}
+use Prim.Native.Nat.{◌+◌, ◌-◌}
+use Rattle.text.proofs.word.skip_word.Goals as goal
+
+pub loop-i-init : goal.loop-i-init
+loop-i-init c = refl
+
+pub returns-then-breaks : goal.returns-then-breaks
+returns-then-breaks c = sym (c.loop-i.invariant ∙ run-stop _ _ c.loop-i-test.true (sym c.breaks.ensures ∙ c.if-breaks.true))
+
+pub loop-i-preserved : goal.loop-i-preserved
+loop-i-preserved c = c.loop-i.invariant ∙ run-turn _ _ c.loop-i-test.true (sym c.breaks.ensures ∙ c.if-breaks.false)
+
+pub returns : goal.returns
+returns c = sym (c.loop-i.invariant ∙ run_past _ _ c.loop-i-test.false)

@@ -1,0 +1,15 @@
+-- What the loop of `text::word::skip_word` keeps.
+use borrow.Author.Rules.{rules}
+use Prim.Native.Nat.{◌+◌, ◌-◌}
+use mathlib.Core.Path.{◌≡◌, refl, sym, ◌∙◌}
+use lib.ListN.{length, drop}
+use Rattle.text.specs.inner.Words.{word_length}
+use Rattle.text.proofs.Words.{run_past, run-stop, run-turn}
+use Prim.Native.Nat.{◌+◌, ◌-◌}
+use Rattle.text.proofs.word.skip_word.Given as goal
+
+abbrev pub invariant-loop-i : goal.invariant-loop-i
+invariant-loop-i l = l.at + word_length (drop l.at l.text) ≡ l.i + word_length (drop l.i l.text)
+
+abbrev pub decreases-loop-i : goal.decreases-loop-i
+decreases-loop-i l = length l.text - l.i

@@ -1,0 +1,18 @@
+-- What the loop of `transition::costs::fill_routes` keeps.
+use mathlib.Core.Path.{refl, ◌∙◌, ◌≡◌}
+use Prim.Native.Nat.{◌-◌, ◌≤◌}
+use native.Mathlib.Omega.{arith}
+use lib.ListN.{length}
+use borrow.Author.Rules.{rules}
+use Rattle.network.specs.inner.Compiled.{graph_in}
+use Rattle.lists.specs.Loops.{up_to}
+use Rattle.transition.specs.inner.Costs.{rows_filled}
+use Rattle.transition.proofs.Held.{row_fits, rows-turn}
+use Rattle.transition.proofs.costs.fill_routes.Given as goal
+
+abbrev pub invariant-loop-r : goal.invariant-loop-r
+invariant-loop-r l = let g = graph_in l.lengths l.heads l.links in
+    (l.r-end ≡ length l.starts) × (l.r ≤ l.r-end) × (length l.found ≡ length l.initial.found) × (l.found ≡ rows_filled g l.starts l.goals l.r l.initial.found)
+
+abbrev pub decreases-loop-r : goal.decreases-loop-r
+decreases-loop-r l = l.r-end - l.r
