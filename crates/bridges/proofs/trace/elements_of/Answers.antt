@@ -23,10 +23,10 @@ is_barred-requires c = let t = c.loop-k.invariant in
     (tracing-few t (omega arith) c.requires.states_len_bound, tracing-long t (omega arith) c.requires.states_len_bound)
 
 pub offset_bounds-elements-count : goal.offset_bounds-elements-count
-offset_bounds-elements-count c = omega (arith, tracing-room c.loop-k.invariant (omega (arith, c.requires.n_bound)) c.requires.states_len_bound c.loop-k-test.true c.is_barred.ensures (not-true _ c.if-not-is_barred.true))
+offset_bounds-elements-count c = omega (arith, tracing-room c.loop-k.invariant (omega (arith, c.requires.n_bound)) c.requires.states_len_bound c.loop-k-test.true c.is_barred.ensures (c.if-not-is_barred.true))
 
 pub bounds-elements-count : goal.bounds-elements-count
-bounds-elements-count c = tracing-room c.loop-k.invariant (omega (arith, c.requires.n_bound)) c.requires.states_len_bound c.loop-k-test.true c.is_barred.ensures (not-true _ c.if-not-is_barred.true)
+bounds-elements-count c = tracing-room c.loop-k.invariant (omega (arith, c.requires.n_bound)) c.requires.states_len_bound c.loop-k-test.true c.is_barred.ensures (c.if-not-is_barred.true)
 
 pub overflow_add-count : goal.overflow_add-count
 overflow_add-count c = omega (arith, tracing-few c.loop-k.invariant (omega (arith, c.requires.n_bound)) c.requires.states_len_bound)

@@ -5,7 +5,6 @@ use mathlib.Core.Bool.{true, ◌&&◌}
 use lib.Dec.{leb, ltb}
 use Prim.Native.Nat.{ℕ, ◌≤◌}
 use lib.ListN.{length}
-use borrow.Author.Tests.{not-true, not-false}
 use borrow.Author.Rules.{rules}
 use Rattle.journal.specs.Lists.{each}
 use Rattle.journal.specs.Row.{Given, fix_given, given_of, before_of}
@@ -24,19 +23,19 @@ abbrev fix : tie.Start → Given
 fix s = given_of s.args.minute s.args.elements.now s.args.intrinsics.now s.args.near.now s.args.raw-logs.now s.args.distances.now
 
 counts-pass : (c : place.Else-not-counts_ok) → counts_ok (fix c) ≡ true
-counts-pass c = sym (counts_same _ _ _ _ _ _) ∙ sym c.counts_ok.ensures ∙ not-false _ c.if-not-counts_ok.false
+counts-pass c = sym (counts_same _ _ _ _ _ _) ∙ sym c.counts_ok.ensures ∙ c.if-not-counts_ok.false
 
 candidates-pass : (c : place.Else-not-candidates_ok) → each (candidate_ok c.args.known) (fix_given (fix c)).candidates ≡ true
-candidates-pass c = ap (each (candidate_ok c.args.known)) (sym (candidates-same _ _ _ _ _ _)) ∙ sym c.candidates_ok.ensures ∙ not-false _ c.if-not-candidates_ok.false
+candidates-pass c = ap (each (candidate_ok c.args.known)) (sym (candidates-same _ _ _ _ _ _)) ∙ sym c.candidates_ok.ensures ∙ c.if-not-candidates_ok.false
 
 rows_pass : (c : place.Else-not-rows_known) → known_read c.args.known (read_journal c.args.journal.now) ≡ true
-rows_pass c = sym c.rows_known.ensures ∙ not-false _ c.if-not-rows_known.false
+rows_pass c = sym c.rows_known.ensures ∙ c.if-not-rows_known.false
 
 before-is : (c : place.After-before_of-p) → c.before_of-p.result ≡ before_of (candidates_of c.args.latest) (length c.args.elements.now)
 before-is c = c.before_of-p.ensures ∙ ap (λ (q : ℕ). before_of q (length c.args.elements.now)) c.candidates_of.ensures
 
 distances-pass : (c : place.Else-not-distances_ok) → each distance_ok c.args.distances.now ≡ true
-distances-pass c = sym c.distances_ok.ensures ∙ not-false _ c.if-not-distances_ok.false
+distances-pass c = sym c.distances_ok.ensures ∙ c.if-not-distances_ok.false
 
 -- neither count is over the limit
 small : (c : place.After-before_of-p) → (length c.args.elements.now ≤ candidate_limit) × (c.before_of-p.result ≤ candidate_limit)
@@ -47,22 +46,22 @@ small c =
     )
 
 minute-pass : (c : place.Else-not-minute_ok) → (ltb c.args.minute minute_limit && leb c.args.reached c.args.minute) ≡ true
-minute-pass c = sym c.minute_ok.ensures ∙ not-false _ c.if-not-minute_ok.false
+minute-pass c = sym c.minute_ok.ensures ∙ c.if-not-minute_ok.false
 
 pub returns-then-not-counts_ok : goal.returns-then-not-counts_ok
-returns-then-not-counts_ok c = let s = c in planned-8 c.args.known _ (fix s) _ _ _ _ c.requires (sym (counts_same _ _ _ _ _ _) ∙ sym c.counts_ok.ensures ∙ not-true _ c.if-not-counts_ok.true)
+returns-then-not-counts_ok c = let s = c in planned-8 c.args.known _ (fix s) _ _ _ _ c.requires (sym (counts_same _ _ _ _ _ _) ∙ sym c.counts_ok.ensures ∙ c.if-not-counts_ok.true)
 
 pub candidates_ok-requires : goal.candidates_ok-requires
-candidates_ok-requires c = counts-even _ (sym c.counts_ok.ensures ∙ not-false _ c.if-not-counts_ok.false)
+candidates_ok-requires c = counts-even _ (sym c.counts_ok.ensures ∙ c.if-not-counts_ok.false)
 
 pub returns-then-not-candidates_ok : goal.returns-then-not-candidates_ok
-returns-then-not-candidates_ok c = let s = c in planned-9 c.args.known _ (fix s) _ _ _ _ c.requires (counts-pass c) (ap (each (candidate_ok c.args.known)) (sym (candidates-same _ _ _ _ _ _)) ∙ sym c.candidates_ok.ensures ∙ not-true _ c.if-not-candidates_ok.true)
+returns-then-not-candidates_ok c = let s = c in planned-9 c.args.known _ (fix s) _ _ _ _ c.requires (counts-pass c) (ap (each (candidate_ok c.args.known)) (sym (candidates-same _ _ _ _ _ _)) ∙ sym c.candidates_ok.ensures ∙ c.if-not-candidates_ok.true)
 
 pub rows_known-requires : goal.rows_known-requires
 rows_known-requires c = let s = c in planned-stand c.args.known _ (fix s) _ _ _ _ c.requires
 
 pub returns-then-not-rows_known : goal.returns-then-not-rows_known
-returns-then-not-rows_known c = let s = c in planned-9-rows c.args.known _ (fix s) _ _ _ _ c.requires (counts-pass c) (candidates-pass c) (sym c.rows_known.ensures ∙ not-true _ c.if-not-rows_known.true)
+returns-then-not-rows_known c = let s = c in planned-9-rows c.args.known _ (fix s) _ _ _ _ c.requires (counts-pass c) (candidates-pass c) (sym c.rows_known.ensures ∙ c.if-not-rows_known.true)
 
 pub distance_count-requires : goal.distance_count-requires
 distance_count-requires c = omega (arith, small c)
@@ -71,10 +70,10 @@ pub returns-then-distances-distance_count : goal.returns-then-distances-distance
 returns-then-distances-distance_count c = let s = c in planned-10 c.args.known _ (fix s) _ _ _ _ c.requires (counts-pass c) (candidates-pass c) (rows_pass c) _ (before-is c) _ c.distance_count.ensures.fact_1 c.if-distances-distance_count.true
 
 pub returns-then-not-distances_ok : goal.returns-then-not-distances_ok
-returns-then-not-distances_ok c = let s = c in planned-10-ranges c.args.known _ (fix s) _ _ _ _ c.requires (counts-pass c) (candidates-pass c) (rows_pass c) _ (before-is c) (c.if-distances-distance_count.false ∙ c.distance_count.ensures.fact_1) (sym c.distances_ok.ensures ∙ not-true _ c.if-not-distances_ok.true)
+returns-then-not-distances_ok c = let s = c in planned-10-ranges c.args.known _ (fix s) _ _ _ _ c.requires (counts-pass c) (candidates-pass c) (rows_pass c) _ (before-is c) (c.if-distances-distance_count.false ∙ c.distance_count.ensures.fact_1) (sym c.distances_ok.ensures ∙ c.if-not-distances_ok.true)
 
 pub returns-then-not-minute_ok : goal.returns-then-not-minute_ok
-returns-then-not-minute_ok c = let s = c in planned-17 c.args.known _ (fix s) _ _ _ _ c.requires (counts-pass c) (candidates-pass c) (rows_pass c) _ (before-is c) (c.if-distances-distance_count.false ∙ c.distance_count.ensures.fact_1) (distances-pass c) (sym c.minute_ok.ensures ∙ not-true _ c.if-not-minute_ok.true)
+returns-then-not-minute_ok c = let s = c in planned-17 c.args.known _ (fix s) _ _ _ _ c.requires (counts-pass c) (candidates-pass c) (rows_pass c) _ (before-is c) (c.if-distances-distance_count.false ∙ c.distance_count.ensures.fact_1) (distances-pass c) (sym c.minute_ok.ensures ∙ c.if-not-minute_ok.true)
 
 pub returns-then-rows-ge65535 : goal.returns-then-rows-ge65535
 returns-then-rows-ge65535 c = let s = c in planned-11 c.args.known _ (fix s) _ _ _ _ c.requires (counts-pass c) (candidates-pass c) (rows_pass c) _ (before-is c) (c.if-distances-distance_count.false ∙ c.distance_count.ensures.fact_1) (distances-pass c) (minute-pass c) c.if-rows-ge65535.true

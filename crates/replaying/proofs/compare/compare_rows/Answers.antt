@@ -2,7 +2,6 @@
 use Prim.Native.Nat.{◌-◌}
 use native.Mathlib.Omega.{arith}
 use mathlib.Core.Logic.{inl, inr}
-use borrow.Author.Tests.{not-true, not-false}
 use lib.ListN.{length}
 use Rattle.network.specs.Network.{network_of}
 use Rattle.transition.specs.Step.{transition}
@@ -24,10 +23,10 @@ compare_minute-reached-requires c =
     }
 
 pub returns-then-not-reached : goal.returns-then-not-reached
-returns-then-not-reached c = (c.compare_minute-reached.ensures.0, inr (not-true _ c.if-not-reached.true))
+returns-then-not-reached c = (c.compare_minute-reached.ensures.0, inr (c.if-not-reached.true))
 
 pub loop-reached-smaller : goal.loop-reached-smaller
-loop-reached-smaller c = compared-less c.compare_minute-reached.ensures.0 c.compare_minute-reached.ensures.1 (not-false _ c.if-not-reached.false)
+loop-reached-smaller c = compared-less c.compare_minute-reached.ensures.0 c.compare_minute-reached.ensures.1 (c.if-not-reached.false)
 
 pub loop-reached-preserved : goal.loop-reached-preserved
 loop-reached-preserved c = c.compare_minute-reached.ensures.0
