@@ -1,6 +1,5 @@
 -- `journal::halves::intrinsic_reads` meets its contract.
 use Rattle.journal.proofs.HighHalf.{intrinsic-half}
-use borrow.Author.Rules.{rules}
 use mathlib.Core.Path.{sym}
 use Prim.Native.Nat.{◌+◌}
 use native.Mathlib.Omega.{arith}

@@ -1,6 +1,5 @@
 -- `journal::halves::raw_log_reads` meets its contract.
 use Rattle.journal.proofs.HighHalf.{above, raw-log-half}
-use borrow.Author.Rules.{rules}
 use mathlib.Core.Path.{sym, ◌∙◌}
 use Prim.Native.Nat.{◌+◌}
 use native.Mathlib.Omega.{arith}

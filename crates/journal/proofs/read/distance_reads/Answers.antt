@@ -1,6 +1,5 @@
 -- `journal::read::distance_reads` meets its contract.
 use native.Mathlib.Omega.{arith}
-use borrow.Author.Rules.{rules}
 use Rattle.journal.proofs.Tests.{distance-at-test}
 use Rattle.journal.proofs.read.distance_reads.Goals as goal
 

@@ -3,7 +3,6 @@ use Prim.Native.Nat.{◌+◌, ◌*◌}
 use Rattle.journal.proofs.HighHalf.{distance-half}
 use Rattle.journal.proofs.Tests.{distance-at-test}
 use Rattle.lists.proofs.Loops.{every-all}
-use borrow.Author.Rules.{rules}
 use mathlib.Core.Path.{sym, ◌∙◌}
 use native.Mathlib.Omega.{arith}
 use Rattle.journal.proofs.read.distances_read.Goals as goal
