@@ -1,5 +1,4 @@
 -- `routing::blocks::lower_entry` meets its contract.
-use borrow.Author.Rules.{rules}
 use Rattle.routing.proofs.blocks.lower_entry.Goals as goal
 
 pub returns : goal.returns

@@ -1,21 +1,12 @@
 -- `routing::goals::serve_goals` meets its contract.
-use mathlib.Core.Path.{◌≡◌, refl, sym, ◌∙◌}
-use mathlib.Core.Bool.{true, false}
-use Prim.Native.Nat.{ℕ, ◌*◌, ◌≤◌, ◌<◌}
+use mathlib.Core.Path.{refl, sym, ◌∙◌}
 use native.Mathlib.Omega.{arith}
-use lib.ListN.{length, get_or, drop}
-use lib.Ieee.{nan, inf, lt}
-use borrow.Author.Rules.{rules}
-use Rattle.network.specs.Graph.{Graph, element_count}
 use Rattle.network.specs.inner.Compiled.{graph_in}
-use Rattle.routing.specs.declared.search.Pick.TheVariants.{At}
-use Rattle.routing.specs.Search.{Search, search_of, next, search_in}
-use Rattle.routing.specs.inner.Search.{unsettled}
-use Rattle.routing.specs.inner.Blocks.{Blocks}
+use Rattle.routing.specs.Search.{search_of, next}
 use Rattle.routing.proofs.Turns.{below, turn-less}
 use Rattle.routing.proofs.Leaders.{blocks-fit}
 use Rattle.routing.proofs.Noting.{costs-all}
-use Rattle.routing.proofs.Served.{Served, served-begins, served-reached, served-none, served-on}
+use Rattle.routing.proofs.Served.{served-begins, served-reached, served-none, served-on}
 use Rattle.routing.proofs.goals.serve_goals.Goals as goal
 
 pub loop-waiting-init : goal.loop-waiting-init

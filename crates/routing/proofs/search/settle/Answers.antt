@@ -1,6 +1,5 @@
 -- `routing::search::settle` meets its contract.
 use native.Mathlib.Omega.{arith}
-use borrow.Author.Rules.{rules}
 use Rattle.routing.proofs.Turns.{settled-odd, settled-even}
 use Rattle.network.proofs.Links.{opposite-lands}
 use Rattle.routing.proofs.Leaders.{blocks-marked}
