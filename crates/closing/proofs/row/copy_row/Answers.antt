@@ -11,7 +11,7 @@ use Rattle.closing.proofs.row.copy_row.Goals as goal
 
 -- the buffers as they were lent
 abbrev lent : tie.Start → RowBuffers
-lent c = row_buffers_of c.args.elements.now c.args.intrinsics.now c.args.near.now c.args.raw-logs.now c.args.parents.now c.args.scores.now c.args.distances.now
+lent c = row_buffers_of c.args.elements.now c.args.intrinsics.now c.args.near.now c.args.raw_logs.now c.args.parents.now c.args.scores.now c.args.distances.now
 
 -- there is room for the candidates
 room : (c : place.Else-least-count) → get_or c.args.words.now 0 0 % 32 ≤ candidate_room (lent c)

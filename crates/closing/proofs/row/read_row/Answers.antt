@@ -9,7 +9,7 @@ use Rattle.closing.proofs.row.read_row.Goals as goal
 
 -- the buffers as they were lent
 abbrev lent : tie.Start → RowBuffers
-lent c = row_buffers_of c.args.elements.now c.args.intrinsics.now c.args.near.now c.args.raw-logs.now c.args.parents.now c.args.scores.now c.args.distances.now
+lent c = row_buffers_of c.args.elements.now c.args.intrinsics.now c.args.near.now c.args.raw_logs.now c.args.parents.now c.args.scores.now c.args.distances.now
 
 pub returns-then-rows-number : goal.returns-then-rows-number
 unfolding row_answer filled

@@ -41,7 +41,7 @@ pub bounds-raw_logs-i : goal.bounds-raw_logs-i
 bounds-raw_logs-i c = omega (arith, c.requires.raw_logs)
 
 pub returns-then-not-candidate_ok : goal.returns-then-not-candidate_ok
-returns-then-not-candidate_ok c = every-stop c.loop-i.i _ _ (omega arith) (sym c.candidate_ok.ensures ∙ c.if-not-candidate_ok.true) ∙ all-given (candidate_ok c.args.known) (given_of 0 c.args.elements.now c.args.intrinsics.now c.args.near.now c.args.raw-logs.now [])
+returns-then-not-candidate_ok c = every-stop c.loop-i.i _ _ (omega arith) (sym c.candidate_ok.ensures ∙ c.if-not-candidate_ok.true) ∙ all-given (candidate_ok c.args.known) (given_of 0 c.args.elements.now c.args.intrinsics.now c.args.near.now c.args.raw_logs.now [])
 
 pub overflow_step-i : goal.overflow_step-i
 overflow_step-i c = omega arith
@@ -53,4 +53,4 @@ pub loop-i-preserved : goal.loop-i-preserved
 loop-i-preserved c = (refl, omega arith, every-turn _ _ c.loop-i.invariant.2 (sym c.candidate_ok.ensures ∙ c.if-not-candidate_ok.false))
 
 pub returns : goal.returns
-returns c = every-done _ _ _ c.loop-i.invariant.2 (omega arith) ∙ all-given (candidate_ok c.args.known) (given_of 0 c.args.elements.now c.args.intrinsics.now c.args.near.now c.args.raw-logs.now [])
+returns c = every-done _ _ _ c.loop-i.invariant.2 (omega arith) ∙ all-given (candidate_ok c.args.known) (given_of 0 c.args.elements.now c.args.intrinsics.now c.args.near.now c.args.raw_logs.now [])

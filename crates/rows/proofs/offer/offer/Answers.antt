@@ -1,5 +1,4 @@
 -- `rows::offer::offer` meets its contract.
-use borrow.Author.Rules.{rules}
 use mathlib.Core.Path.{sym, ◌∙◌}
 use Rattle.transition.specs.inner.Track.{step_through}
 use Rattle.rows.specs.Row.{floored}

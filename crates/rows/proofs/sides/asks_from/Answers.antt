@@ -1,5 +1,4 @@
 -- `rows::sides::asks_from` meets its contract.
-use borrow.Author.Rules.{rules}
 use Rattle.rows.proofs.Nodes.{asks-infinite, asks-own, asks-near}
 use Rattle.rows.proofs.sides.asks_from.Goals as goal
 

@@ -17,7 +17,7 @@ find_routes-requires c =
 
 pub fill_pairs-requires : goal.fill_pairs-requires
 fill_pairs-requires c =
-    let long = c.find_routes.auto.1.1.1.1.1.0 ∙ routes-many c.no_routes-found.ensures in
+    let long = c.find_routes.auto.found ∙ routes-many c.no_routes-found.ensures in
     record {
       element_lists = c.requires.track_fits.places;
       two_records = c.requires.two_records;
