@@ -1,6 +1,5 @@
 -- `decoder::feed::feed` meets its contract.
 use mathlib.Core.Path.{sym, ◌∙◌}
-use borrow.Author.Rules.{rules}
 use Rattle.decoder.proofs.Handed.{floats-fit}
 use Rattle.decoder.proofs.Plans.{fed-refused}
 use Rattle.decoder.proofs.Writing.{plan-accepted, plan-ends, plan-done, plan-even, plan-feedable, plan-fed, fix_is, even-without}

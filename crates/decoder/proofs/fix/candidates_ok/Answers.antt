@@ -1,13 +1,8 @@
 -- `decoder::fix::candidates_ok` meets its contract.
 use native.Mathlib.Omega.{arith}
-use borrow.Author.Rules.{rules}
-use mathlib.Core.Path.{◌≡◌, refl, sym, ◌∙◌}
-use mathlib.Core.Bool.{true}
+use mathlib.Core.Path.{refl, sym, ◌∙◌}
 use mathlib.Core.List.{[]}
-use Prim.Native.Nat.{◌≤◌, ◌-◌}
-use lib.ListN.{length, get_or}
-use Rattle.lists.specs.Loops.{every_below}
-use Rattle.journal.specs.Row.{candidate_given, given_of}
+use Rattle.journal.specs.Row.{given_of}
 use Rattle.journal.specs.Ranges.{candidate_ok}
 use Rattle.lists.proofs.Loops.{every-none, every-turn, every-done, every-stop}
 use Rattle.decoder.proofs.Tests.{all-given}

@@ -1,12 +1,7 @@
 -- `decoder::fix::distances_ok` meets its contract.
 use native.Mathlib.Omega.{arith}
-use borrow.Author.Rules.{rules}
-use mathlib.Core.Path.{◌≡◌, refl, sym, ◌∙◌}
-use mathlib.Core.Bool.{true}
-use Prim.Native.Nat.{◌≤◌, ◌-◌}
-use lib.ListN.{length, get_or}
+use mathlib.Core.Path.{refl, sym, ◌∙◌}
 use lib.Ieee.{nan}
-use Rattle.lists.specs.Loops.{every_below}
 use Rattle.journal.specs.Ranges.{distance_ok}
 use Rattle.lists.proofs.Loops.{every-none, every-turn, every-done, every-stop}
 use Rattle.decoder.proofs.Tests.{all_list}

@@ -2,11 +2,11 @@
 use native.Mathlib.Omega.{arith}
 use mathlib.Core.Path.{sym, ap, ◌∙◌}
 use mathlib.Core.List.{List}
-use Prim.Native.Nat.{ℕ, ◌≤◌, ◌-◌}
+use Prim.Native.Nat.{ℕ}
 use Rattle.journal.specs.Record.{read_row}
 use Rattle.decoder.specs.Call.{known_row}
 use Rattle.journal.proofs.Stores.{take_rest}
-use Rattle.decoder.proofs.KnownRows.{KnownTo, known_start, known-room, known-inside, known-stop, known-turn, known-done}
+use Rattle.decoder.proofs.KnownRows.{known_start, known-room, known-inside, known-stop, known-turn, known-done}
 use Rattle.decoder.proofs.known.rows_known.Goals as goal
 
 pub loop-k-init : goal.loop-k-init
