@@ -1,16 +1,8 @@
 -- `replaying::cells::cells_same` meets its contract.
-use mathlib.Core.Path.{◌≡◌, sym, ◌∙◌}
-use mathlib.Core.Bool.{true}
-use Prim.Native.Nat.{◌≤◌, ◌-◌}
+use mathlib.Core.Path.{sym, ◌∙◌}
 use native.Mathlib.Omega.{arith}
-use lib.ListN.{get_or}
-use lib.Ieee.{nan}
-use Rattle.lists.specs.Loops.{every_below}
 use Rattle.lists.proofs.Loops.{every-none, every-turn, every-done, every-stop}
-use Rattle.journal.specs.Row.{cell_of}
-use Rattle.journal.specs.Record.{read_row}
 use Rattle.rows.proofs.Records.{stands_at}
-use Rattle.replaying.specs.inner.Comparing.{same_cell}
 use Rattle.replaying.proofs.cells.cells_same.Goals as goal
 
 pub loop-i-init : goal.loop-i-init

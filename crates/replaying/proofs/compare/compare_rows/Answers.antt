@@ -1,12 +1,7 @@
 -- `replaying::compare::compare_rows` meets its contract.
-use Prim.Native.Nat.{◌-◌}
 use native.Mathlib.Omega.{arith}
 use mathlib.Core.Logic.{inl, inr}
-use lib.ListN.{length}
-use Rattle.network.specs.Network.{network_of}
-use Rattle.transition.specs.Step.{transition}
-use Rattle.journal.specs.inner.Rows.{rows_in}
-use Rattle.replaying.specs.inner.Comparing.{Compared}
+use borrow.Author.Tests.{not-true, not-false}
 use Rattle.replaying.proofs.Standing.{at_most}
 use Rattle.replaying.proofs.Stretches.{compared-start, compared-less}
 use Rattle.replaying.proofs.compare.compare_rows.Goals as goal
@@ -23,10 +18,10 @@ compare_minute-reached-requires c =
     }
 
 pub returns-then-not-reached : goal.returns-then-not-reached
-returns-then-not-reached c = (c.compare_minute-reached.ensures.0, inr (c.if-not-reached.true))
+returns-then-not-reached c = (c.compare_minute-reached.ensures.0, inr (not-true _ c.if-not-reached.true))
 
 pub loop-reached-smaller : goal.loop-reached-smaller
-loop-reached-smaller c = compared-less c.compare_minute-reached.ensures.0 c.compare_minute-reached.ensures.1 (c.if-not-reached.false)
+loop-reached-smaller c = compared-less c.compare_minute-reached.ensures.0 c.compare_minute-reached.ensures.1 (not-false _ c.if-not-reached.false)
 
 pub loop-reached-preserved : goal.loop-reached-preserved
 loop-reached-preserved c = c.compare_minute-reached.ensures.0

@@ -1,6 +1,5 @@
 -- `replaying::replay::replay` meets its contract.
 use mathlib.Core.Path.{sym, ◌∙◌}
-use borrow.Author.Rules.{rules}
 use Rattle.decoder.proofs.Refusals.{refused-network, refused-settings, not-refused}
 use Rattle.replaying.proofs.Answers.{replay-first, replay-then}
 use Rattle.replaying.proofs.replay.replay.Goals as goal

@@ -1,7 +1,6 @@
 -- `replaying::replay::replay_journal` meets its contract.
 use native.Mathlib.Omega.{arith}
 use mathlib.Core.Path.{sym, ◌∙◌}
-use borrow.Author.Rules.{rules}
 use Rattle.network.proofs.Accepted.{accepted-counts}
 use Rattle.decoder.proofs.KnownRows.{rows-stand}
 use Rattle.replaying.proofs.Answers.{replay-not, replay-unknown, replayable, replay-clean, replay-differs, row_small}

@@ -1,7 +1,6 @@
 -- `steps::fill::fill_steps` meets its contract.
 use mathlib.Core.Path.{◌∙◌}
 use native.Mathlib.Omega.{arith}
-use borrow.Author.Rules.{rules}
 use Rattle.transition.specs.inner.Track.{track_in}
 use Rattle.transition.proofs.Held.{routes-many}
 use Rattle.steps.proofs.Routes.{table-holds}

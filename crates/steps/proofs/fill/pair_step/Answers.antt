@@ -1,6 +1,5 @@
 -- `steps::fill::pair_step` meets its contract.
 use mathlib.Core.Path.{sym, ◌∙◌}
-use borrow.Author.Rules.{rules}
 use Rattle.steps.proofs.Records.{own-some, own-stands, pair-stands, routes-inside, pair-none, pair-some}
 use Rattle.steps.proofs.fill.pair_step.Goals as goal
 

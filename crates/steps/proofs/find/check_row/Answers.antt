@@ -1,7 +1,6 @@
 -- `steps::find::check_row` meets its contract.
 use native.Mathlib.Omega.{arith}
 use mathlib.Core.Path.{sym, ◌∙◌}
-use borrow.Author.Rules.{rules}
 use Rattle.network.proofs.Accepted.{accepted-counts}
 use Rattle.decoder.proofs.Refusals.{refused-network, refused-settings, not-refused}
 use Rattle.steps.proofs.Listing.{found_first, found-then}

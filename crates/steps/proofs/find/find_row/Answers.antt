@@ -1,6 +1,5 @@
 -- `steps::find::find_row` meets its contract.
 use mathlib.Core.Path.{sym, ◌∙◌}
-use borrow.Author.Rules.{rules}
 use Rattle.decoder.proofs.KnownRows.{rows-stand}
 use Rattle.steps.proofs.Earlier.{row-stands, found-not, found-unknown, found-past, found-row}
 use Rattle.steps.proofs.find.find_row.Goals as goal

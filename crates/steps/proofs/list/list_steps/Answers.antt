@@ -1,6 +1,5 @@
 -- `steps::list::list_steps` meets its contract.
 use mathlib.Core.Path.{ap, ◌∙◌}
-use borrow.Author.Rules.{rules}
 use Rattle.steps.specs.Listing.{StepsListing, step_buffers_of, room_of, list_answer, list_stored}
 use Rattle.steps.proofs.list.list_steps.Goals as goal
 

@@ -1,7 +1,6 @@
 -- `steps::list::store_steps` meets its contract.
 use mathlib.Core.Path.{ap, ◌∙◌}
 use Prim.Native.Nat.{min}
-use borrow.Author.Rules.{rules}
 use Rattle.steps.specs.Listing.{step_buffers_of, room_of}
 use Rattle.steps.proofs.Between.{refused-is, refused-listed, too_many, room-listed, all_listed}
 use Rattle.steps.proofs.list.store_steps.Goals as goal

@@ -1,7 +1,6 @@
 -- `steps::table::find_steps` meets its contract.
 use native.Mathlib.Omega.{arith}
 use mathlib.Core.Path.{sym, ◌∙◌}
-use borrow.Author.Rules.{rules}
 use Rattle.network.specs.Network.{network_of}
 use Rattle.transition.specs.Step.{transition}
 use Rattle.steps.proofs.Listing.{row-refused, row-alone, row-accepted, row-joined, row-linked}

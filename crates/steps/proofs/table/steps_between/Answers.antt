@@ -1,6 +1,5 @@
 -- `steps::table::steps_between` meets its contract.
 use mathlib.Core.Path.{refl, ap, ◌∙◌}
-use borrow.Author.Rules.{rules}
 use Rattle.network.specs.Network.{network_of}
 use Rattle.network.proofs.Accepted.{accepted-counts, accepted-relations, accepted-windows}
 use Rattle.journal.specs.Record.{read_row}
