@@ -2,7 +2,7 @@
 -- negated value. Assumes nothing.
 use mathlib.Core.Path.{◌≡◌, sym, ap, ◌∙◌, subst}
 use mathlib.Core.Bool.{Bool, true, false, not, cond}
-use mathlib.Core.Logic.{◌⊎◌, ⊎_elim}
+use mathlib.Core.Logic.{⊎_elim}
 use Prim.Native.Nat.{ℕ, zero, suc, ◌+◌, ◌-◌, ◌*◌, ◌/◌, ◌%◌, ◌^◌, ◌<◌, ◌≤◌}
 use native.Mathlib.Nat.{mul_comm, mul-suc, add-mul, pow-suc, mul_assoc, mul-le-mul_left, mul-le-mul_right, mul-lt-mul_of_pos_right, mod-lt, mod-eq_of_lt, add-mod_left, mul-add-mod_self_left, zero-add, eq-or-lt_of_le, suc-mul, lt_of_mul-lt-mul_right, div-add-mod', div-lt_iff_lt-mul}
 use native.Mathlib.Omega.{arith}

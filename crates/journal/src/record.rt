@@ -35,9 +35,9 @@ pub fn distance_count(c: usize, p: usize) -> usize
 
 // The seven words of a candidate, its parent and its score at `at`.
 fn put_cell(words: &mut [u32], at: usize, c: Candidate, parent: u32, score: f64)
-    requires cell_writable { let cell = record { candidate = c; parent = parent; score = score } in CellWritable cell }
+    requires cell_writable { let cell : Cell = record { candidate = c; parent = parent; score = score } in CellWritable cell }
     requires at_in_bounds { at + 7 ≤ length words.old }
-    ensures { let cell = record { candidate = c; parent = parent; score = score } in
+    ensures { let cell : Cell = record { candidate = c; parent = parent; score = score } in
         words.new ≡ sets words.old at (cell_words cell) }
 {
     words[at] = 0x2000_0000 + c.element + 1024 * c.near + 2048 * parent;

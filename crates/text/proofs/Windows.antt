@@ -4,7 +4,7 @@ use native.Mathlib.Nat.{le_of_lt}
 use native.Mathlib.Numerals.{add-one}
 use native.Mathlib.Omega.{arith}
 use mathlib.Core.Path.{◌≡◌, refl, sym, ap, ◌∙◌}
-use mathlib.Core.List.{List, [], ◌++◌}
+use mathlib.Core.List.{List, ◌++◌}
 use lib.ListN.{length, get_or, take, drop, set, length-take, length-drop, drop_of_length-le}
 use lib.Seq.{take-length, take-suc, length-take-le, drop-cons, set_at, append_snoc, get_or-take, get_or-drop, get_or-append-add}
 use Rattle.text.specs.inner.Window.{rest, moved}

@@ -1,6 +1,5 @@
 -- `binary64::is_minus_infinity` meets its contract.
 use Rattle.binary64.proofs.Ranges.{minus-infinity-eq}
-use borrow.Author.Rules.{rules}
 use Rattle.binary64.proofs.is_minus_infinity.Goals as goal
 
 pub returns : goal.returns

@@ -1,6 +1,5 @@
 -- A track as the code has it: lists of the elements, and the graph compiled; what is asked of it; and a step by given routes.
 use Rattle.std.specs.Prelude.{ℕ, ◌*◌, ◌≤◌, ◌≡◌, List, length, Float}
-use Rattle.network.specs.Graph.{graph}
 use Rattle.network.specs.inner.Sound.{SoundGraph}
 use Rattle.network.specs.inner.Compiled.{graph_in}
 use Rattle.journal.specs.declared.record.Candidate.{Candidate}

@@ -1,5 +1,4 @@
 -- `bridges::insert::bridges_between` meets its contract.
-use borrow.Author.Rules.{rules}
 use mathlib.Core.Path.{ap, ◌∙◌}
 use Rattle.bridges.specs.Bridges.{cheapest_of}
 use Rattle.bridges.proofs.Between.{between_none, between-near, between-far}

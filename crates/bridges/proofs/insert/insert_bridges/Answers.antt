@@ -2,7 +2,6 @@
 use mathlib.Core.Path.{ap, sym, ◌∙◌}
 use Rattle.bridges.specs.inner.Found.{bridges_of}
 use Rattle.bridges.proofs.Joined.{joined-none}
-use borrow.Author.Rules.{rules}
 use Rattle.bridges.proofs.insert.insert_bridges.Goals as goal
 
 pub returns-then-are_joined : goal.returns-then-are_joined

@@ -1,5 +1,4 @@
 -- `bridges::insert::trace_intermediate_netelements` meets its contract.
-use borrow.Author.Rules.{rules}
 use Rattle.bridges.proofs.Listed.{listed-room, listed-long, listed-short, listed-traced, none-traced, refused-traced}
 use Rattle.bridges.proofs.insert.trace_intermediate_netelements.Goals as goal
 

@@ -1,5 +1,4 @@
 -- `bridges::sides::cheaper_sides` meets its contract.
-use borrow.Author.Rules.{rules}
 use Rattle.bridges.proofs.Cheapest.{cheaper-none, cheaper-first, cheaper-less, cheaper-not-less}
 use Rattle.bridges.proofs.sides.cheaper_sides.Goals as goal
 

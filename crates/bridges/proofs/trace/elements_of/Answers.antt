@@ -1,10 +1,8 @@
 -- `bridges::trace::elements_of` meets its contract. The invariant: the elements of the first k states are found. Assumes nothing.
-use mathlib.Core.Logic.{⊎_elim}
-use Prim.Native.Nat.{◌-◌}
 use native.Mathlib.Omega.{arith}
-use borrow.Author.Tests.{not-true, not-false}
-use Rattle.bridges.proofs.Tracing.{Tracing, tracing-none, tracing-done, tracing-few, tracing-long, tracing-same, tracing-room, tracing-more}
+use Rattle.bridges.proofs.Tracing.{tracing-none, tracing-done, tracing-few, tracing-long, tracing-same, tracing-room, tracing-more}
 use Rattle.bridges.proofs.trace.elements_of.Goals as goal
+use Rattle.bridges.proofs.trace.elements_of.Goals.{then-not-is_barred, else-not-is_barred}
 
 pub no_elements-elements-requires : goal.no_elements-elements-requires
 no_elements-elements-requires c = tt
@@ -23,10 +21,10 @@ is_barred-requires c = let t = c.loop-k.invariant in
     (tracing-few t (omega arith) c.requires.states_len_bound, tracing-long t (omega arith) c.requires.states_len_bound)
 
 pub offset_bounds-elements-count : goal.offset_bounds-elements-count
-offset_bounds-elements-count c = omega (arith, tracing-room c.loop-k.invariant (omega (arith, c.requires.n_bound)) c.requires.states_len_bound c.loop-k-test.true c.is_barred.ensures (not-true _ c.if-not-is_barred.true))
+offset_bounds-elements-count c = omega (arith, tracing-room c.loop-k.invariant (omega (arith, c.requires.n_bound)) c.requires.states_len_bound c.loop-k-test.true c.is_barred.ensures (c.if-not-is_barred.true))
 
 pub bounds-elements-count : goal.bounds-elements-count
-bounds-elements-count c = tracing-room c.loop-k.invariant (omega (arith, c.requires.n_bound)) c.requires.states_len_bound c.loop-k-test.true c.is_barred.ensures (not-true _ c.if-not-is_barred.true)
+bounds-elements-count c = tracing-room c.loop-k.invariant (omega (arith, c.requires.n_bound)) c.requires.states_len_bound c.loop-k-test.true c.is_barred.ensures (c.if-not-is_barred.true)
 
 pub overflow_add-count : goal.overflow_add-count
 overflow_add-count c = omega (arith, tracing-few c.loop-k.invariant (omega (arith, c.requires.n_bound)) c.requires.states_len_bound)
@@ -41,10 +39,10 @@ pub loop-k-preserved : goal.loop-k-preserved
 loop-k-preserved c = let t = c.loop-k.invariant in
     let low = c.loop-k-test.true in
     let told = c.is_barred.ensures in
-    ⊎_elim
-    (λ w. rw (w.1, w.2) (tracing-more t (omega (arith, c.requires.n_bound)) c.requires.states_len_bound low told (not-true _ w.0.taken)))
-    (λ w. rw (w.1, w.2) (tracing-same t (omega (arith, c.requires.n_bound)) c.requires.states_len_bound low told (not-false _ w.0.left)))
-    c.if-not-is_barred.branch
+    elim c.if-not-is_barred.branch [
+      | then-not-is_barred w ↦ rw (w.elements-is, w.count-is) (tracing-more t (omega (arith, c.requires.n_bound)) c.requires.states_len_bound low told w.if-not-is_barred.true)
+      | else-not-is_barred w ↦ rw (w.elements-is, w.count-is) (tracing-same t (omega (arith, c.requires.n_bound)) c.requires.states_len_bound low told w.if-not-is_barred.false)
+    ]
 
 pub returns : goal.returns
 returns c = tracing-done c.loop-k.invariant c.loop-k-test.false

@@ -1,10 +1,5 @@
 -- `bridges::trace::is_among` meets its contract. The invariant: the element is none of the first k. Assumes nothing.
-use mathlib.Core.Path.{◌≡◌}
-use mathlib.Core.Bool.{false}
-use Prim.Native.Nat.{◌≤◌, ◌-◌}
 use native.Mathlib.Omega.{arith}
-use lib.ListN.{take}
-use Rattle.network.specs.Triple.{among}
 use Rattle.bridges.proofs.Among.{among_none, among-turn, among-stop, among-done}
 use Rattle.bridges.proofs.trace.is_among.Goals as goal
 

@@ -2,10 +2,8 @@
 use mathlib.Core.Path.{◌≡◌}
 use mathlib.Core.Bool.{false}
 use Prim.Native.Nat.{◌≤◌, ◌-◌}
-use native.Mathlib.Omega.{arith}
 use lib.ListN.{take}
 use Rattle.network.specs.Triple.{among}
-use Rattle.bridges.proofs.Among.{among_none, among-turn, among-stop, among-done}
 use Rattle.bridges.proofs.trace.is_among.Given as goal
 
 abbrev pub invariant-loop-k : goal.invariant-loop-k

@@ -1,5 +1,4 @@
 -- `bridges::trace::is_barred` meets its contract.
-use borrow.Author.Rules.{rules}
 use Rattle.bridges.proofs.Traced.{barred-previous, barred-next, barred-found}
 use Rattle.bridges.proofs.trace.is_barred.Goals as goal
 

@@ -2,7 +2,6 @@
 use mathlib.Core.Path.{refl, sym, ◌∙◌}
 use Prim.Native.Nat.{min}
 use lib.ListN.{length}
-use borrow.Author.Rules.{rules}
 use Rattle.closing.specs.Close.{close_answer, close_stored}
 use Rattle.closing.proofs.Closing.{closed-not, closed-nothing, last_found}
 use Rattle.closing.proofs.close.close.Goals as goal
@@ -33,7 +32,7 @@ returns-in-Nothing c =
 pub returns-in-At : goal.returns-in-At
 returns-in-At c =
     record {
-      value = (c.close_from.ensures).0;
-      rows_after = (c.close_from.ensures).1;
-      candidates_after = (c.close_from.ensures).2;
+      value = c.close_from.ensures.value;
+      rows_after = c.close_from.ensures.rows_after;
+      candidates_after = c.close_from.ensures.candidates_after;
     }

@@ -1,7 +1,6 @@
 -- `closing::close::close_from` meets its contract.
 use native.Mathlib.Omega.{arith}
 use mathlib.Core.Path.{refl}
-use borrow.Author.Rules.{rules}
 use Rattle.closing.specs.Close.{close_answer, close_stored}
 use Rattle.journal.proofs.Stores.{take_rest}
 use Rattle.closing.proofs.Closing.{last-inside, last-stands, begin-reached, closed-full, closed-path}
@@ -42,8 +41,9 @@ write_path-requires c =
 
 pub returns : goal.returns
 returns c =
+    let path = closed-path _ _ _ _ _ c.requires (rw take_rest at c.best_previous-best.ensures) _ _ c.path_length-n.ensures (rw c.least.ensures at c.if-least-n.false) _ _ c.write_path.ensures.rows_after c.write_path.ensures.candidates_after in
     record {
-      value = (closed-path _ _ _ _ _ c.requires (rw take_rest at c.best_previous-best.ensures) _ _ c.path_length-n.ensures (rw c.least.ensures at c.if-least-n.false) _ _ c.write_path.ensures.rows_after c.write_path.ensures.candidates_after).0;
-      rows_after = (closed-path _ _ _ _ _ c.requires (rw take_rest at c.best_previous-best.ensures) _ _ c.path_length-n.ensures (rw c.least.ensures at c.if-least-n.false) _ _ c.write_path.ensures.rows_after c.write_path.ensures.candidates_after).1;
-      candidates_after = (closed-path _ _ _ _ _ c.requires (rw take_rest at c.best_previous-best.ensures) _ _ c.path_length-n.ensures (rw c.least.ensures at c.if-least-n.false) _ _ c.write_path.ensures.rows_after c.write_path.ensures.candidates_after).2;
+      value = path.0;
+      rows_after = path.1.0;
+      candidates_after = path.1.1;
     }

@@ -1,9 +1,7 @@
 -- `closing::walk::path_length` meets its contract.
 use native.Mathlib.Omega.{arith}
-use mathlib.Core.Path.{◌≡◌, refl, ap, ◌∙◌}
-use Prim.Native.Nat.{◌+◌}
+use mathlib.Core.Path.{refl, ap, ◌∙◌}
 use lib.ListN.{length}
-use Rattle.closing.specs.inner.Walk.{Reached, path_from}
 use Rattle.closing.proofs.Steps.{over-rows, over-reached, over-counts}
 use Rattle.closing.proofs.Storing.{path-stops, path-ends}
 use Rattle.closing.proofs.walk.path_length.Goals as goal

@@ -1,11 +1,8 @@
 -- What the loop of `closing::walk::path_length` keeps.
-use native.Mathlib.Omega.{arith}
-use mathlib.Core.Path.{◌≡◌, refl, ap, ◌∙◌}
+use mathlib.Core.Path.{◌≡◌}
 use Prim.Native.Nat.{◌+◌}
 use lib.ListN.{length}
 use Rattle.closing.specs.inner.Walk.{Reached, path_from}
-use Rattle.closing.proofs.Steps.{over-rows, over-reached, over-counts}
-use Rattle.closing.proofs.Storing.{path-stops, path-ends}
 use Rattle.closing.proofs.walk.path_length.Given as goal
 
 abbrev pub invariant-loop-b : goal.invariant-loop-b

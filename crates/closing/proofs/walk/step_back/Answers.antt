@@ -1,6 +1,5 @@
 -- `closing::walk::step_back` meets its contract.
 use native.Mathlib.Omega.{arith}
-use borrow.Author.Rules.{rules}
 use Rattle.journal.proofs.Stores.{take_rest}
 use Rattle.closing.proofs.Steps.{step_room, step_words, step-candidate, step-yes, step-no, reached-few}
 use Rattle.closing.proofs.walk.step_back.Goals as goal

@@ -1,7 +1,6 @@
 -- `closing::walk::store_back` meets its contract.
 use native.Mathlib.Omega.{arith}
 use borrow.Author.Tests.{lt-ltb, le-ltb}
-use borrow.Author.Rules.{rules}
 use Rattle.closing.specs.inner.Walk.{pair_stored}
 use Rattle.closing.proofs.Steps.{over-pairs, over-rows, reached-few}
 use Rattle.closing.proofs.walk.store_back.Goals as goal

@@ -1,12 +1,8 @@
 -- `closing::walk::write_path` meets its contract.
 use native.Mathlib.Omega.{arith}
-use mathlib.Core.Path.{◌≡◌, refl, ◌∙◌}
-use Prim.Native.Nat.{◌+◌}
-use lib.ListN.{length}
-use Rattle.closing.specs.inner.Walk.{Reached, path_from, column}
-use Rattle.closing.specs.Close.{pair_row, pair_candidate}
+use mathlib.Core.Path.{refl, ◌∙◌}
 use Rattle.closing.proofs.Steps.{over-rows, over-reached, over-counts}
-use Rattle.closing.proofs.Storing.{path-onward, Column, column-start, column-turn, column-end}
+use Rattle.closing.proofs.Storing.{path-onward, column-start, column-turn, column-end}
 use Rattle.closing.proofs.walk.write_path.Goals as goal
 
 pub loop-b-init : goal.loop-b-init

@@ -1,12 +1,10 @@
 -- What the loop of `closing::walk::write_path` keeps.
-use native.Mathlib.Omega.{arith}
-use mathlib.Core.Path.{◌≡◌, refl, ◌∙◌}
+use mathlib.Core.Path.{◌≡◌}
 use Prim.Native.Nat.{◌+◌}
 use lib.ListN.{length}
 use Rattle.closing.specs.inner.Walk.{Reached, path_from, column}
 use Rattle.closing.specs.Close.{pair_row, pair_candidate}
-use Rattle.closing.proofs.Steps.{over-rows, over-reached, over-counts}
-use Rattle.closing.proofs.Storing.{path-onward, Column, column-start, column-turn, column-end}
+use Rattle.closing.proofs.Storing.{Column}
 use Rattle.closing.proofs.walk.write_path.Given as goal
 
 abbrev pub invariant-loop-b : goal.invariant-loop-b

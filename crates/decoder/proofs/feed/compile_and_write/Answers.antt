@@ -1,6 +1,5 @@
 -- `decoder::feed::compile_and_write` meets its contract.
 use mathlib.Core.Path.{ap, ◌∙◌}
-use borrow.Author.Rules.{rules}
 use Rattle.network.proofs.Accepted.{accepted-counts, accepted-relations, accepted-windows}
 use Rattle.transition.specs.Track.{Track}
 use Rattle.transition.specs.Step.{step_on}

@@ -1,6 +1,5 @@
 -- `decoder::feed::feed` meets its contract.
 use mathlib.Core.Path.{sym, ◌∙◌}
-use borrow.Author.Rules.{rules}
 use Rattle.decoder.proofs.Handed.{floats-fit}
 use Rattle.decoder.proofs.Plans.{fed-refused}
 use Rattle.decoder.proofs.Writing.{plan-accepted, plan-ends, plan-done, plan-even, plan-feedable, plan-fed, fix_is, even-without}
@@ -27,7 +26,7 @@ returns-in-Refused c =
       fact = fed-refused _ _ _ _ _ _ (sym c.check_feed-plan.ensures ∙ c.in-Refused.is);
       floats = (
         floats-fit a.intrinsics.now c.shared_slice_known-14-1.given,
-        floats-fit a.raw-logs.now c.shared_slice_known-16-1.given,
+        floats-fit a.raw_logs.now c.shared_slice_known-16-1.given,
         floats-fit a.distances.now c.shared_slice_known-17-1.given,
       );
     }
@@ -41,7 +40,7 @@ returns-in-Fits c =
       fact = (plan-done _ _ _ _ _ _ fits, plan-fed _ _ _ _ _ _ fits same c.compile_and_write.ensures);
       floats = (
         floats-fit a.intrinsics.now c.shared_slice_known-14-1.given,
-        floats-fit a.raw-logs.now c.shared_slice_known-16-1.given,
+        floats-fit a.raw_logs.now c.shared_slice_known-16-1.given,
         floats-fit a.distances.now c.shared_slice_known-17-1.given,
       );
     }

@@ -1,7 +1,6 @@
 -- `decoder::feed::write_fix` meets its contract.
 use native.Mathlib.Omega.{arith}
 use mathlib.Core.Path.{◌∙◌}
-use borrow.Author.Rules.{rules}
 use Rattle.journal.proofs.Gathered.{count-in}
 use Rattle.decoder.proofs.Writing.{place-used, place-stands, fix-scorable, fix-narrow, fix-room, fix-written}
 use Rattle.decoder.proofs.feed.write_fix.Goals as goal
@@ -19,8 +18,8 @@ pub score_row-requires : goal.score_row-requires
 score_row-requires c =
     let pre = c.requires in
     record {
-      entries16 = pre.1.0;
-      scorable = fix-scorable _ _ _ _ _ pre.0 _ _ c.place_of-place.ensures c.candidates_of-before.ensures _ _ (omega arith) (omega arith);
+      entries16 = pre.entries16.0;
+      scorable = fix-scorable _ _ _ _ _ pre.feedable _ _ c.place_of-place.ensures c.candidates_of-before.ensures _ _ (omega arith) (omega arith);
     }
 
 pub add_row-requires : goal.add_row-requires
@@ -30,11 +29,11 @@ add_row-requires c =
     let before = c.candidates_of-before.ensures in
     let scored = c.score_row.ensures in
     let p = c.before_of-p.ensures in
-    let many = count-in _ pre.1.0 in
+    let many = count-in _ pre.entries16.0 in
     record {
-      entries16 = (pre.1.0, fix-narrow _ _ _ _ _ pre.0 _ _ place before _ _ scored _ _ p many);
-      row_in_bounds = fix-room _ _ _ _ _ pre.0 _ _ place before _ _ scored _ _ p many _ pre.1.1;
-      place_le_used = omega (arith, place, place-used _ _ _ _ _ pre.0, pre.1.1);
+      entries16 = (pre.entries16.0, fix-narrow _ _ _ _ _ pre.feedable _ _ place before _ _ scored _ _ p many);
+      row_in_bounds = fix-room _ _ _ _ _ pre.feedable _ _ place before _ _ scored _ _ p many _ pre.entries16.1;
+      place_le_used = omega (arith, place, place-used _ _ _ _ _ pre.feedable, pre.entries16.1);
     }
 
 pub returns : goal.returns
@@ -43,5 +42,5 @@ returns c = let pre = c.requires in
     let before = c.candidates_of-before.ensures in
     let scored = c.score_row.ensures in
     let p = c.before_of-p.ensures in
-    let many = count-in _ pre.1.0 in
-    c.add_row.ensures ∙ fix-written _ _ _ _ _ pre.0 _ _ place before _ _ scored _ _ p many _ pre.1.1
+    let many = count-in _ pre.entries16.0 in
+    c.add_row.ensures ∙ fix-written _ _ _ _ _ pre.feedable _ _ place before _ _ scored _ _ p many _ pre.entries16.1

@@ -1,14 +1,8 @@
 -- `decoder::fix::candidates_ok` meets its contract.
 use native.Mathlib.Omega.{arith}
-use borrow.Author.Rules.{rules}
-use mathlib.Core.Path.{◌≡◌, refl, sym, ◌∙◌}
-use mathlib.Core.Bool.{true}
+use mathlib.Core.Path.{refl, sym, ◌∙◌}
 use mathlib.Core.List.{[]}
-use Prim.Native.Nat.{◌≤◌, ◌-◌}
-use lib.ListN.{length, get_or}
-use borrow.Author.Tests.{not-true, not-false}
-use Rattle.lists.specs.Loops.{every_below}
-use Rattle.journal.specs.Row.{candidate_given, given_of}
+use Rattle.journal.specs.Row.{given_of}
 use Rattle.journal.specs.Ranges.{candidate_ok}
 use Rattle.lists.proofs.Loops.{every-none, every-turn, every-done, every-stop}
 use Rattle.decoder.proofs.Tests.{all-given}
@@ -42,7 +36,7 @@ pub bounds-raw_logs-i : goal.bounds-raw_logs-i
 bounds-raw_logs-i c = omega (arith, c.requires.raw_logs)
 
 pub returns-then-not-candidate_ok : goal.returns-then-not-candidate_ok
-returns-then-not-candidate_ok c = every-stop c.loop-i.i _ _ (omega arith) (sym c.candidate_ok.ensures ∙ not-true _ c.if-not-candidate_ok.true) ∙ all-given (candidate_ok c.args.known) (given_of 0 c.args.elements.now c.args.intrinsics.now c.args.near.now c.args.raw-logs.now [])
+returns-then-not-candidate_ok c = every-stop c.loop-i.i _ _ (omega arith) (sym c.candidate_ok.ensures ∙ c.if-not-candidate_ok.true) ∙ all-given (candidate_ok c.args.known) (given_of 0 c.args.elements.now c.args.intrinsics.now c.args.near.now c.args.raw_logs.now [])
 
 pub overflow_step-i : goal.overflow_step-i
 overflow_step-i c = omega arith
@@ -51,7 +45,7 @@ pub loop-i-smaller : goal.loop-i-smaller
 loop-i-smaller c = omega arith
 
 pub loop-i-preserved : goal.loop-i-preserved
-loop-i-preserved c = (refl, omega arith, every-turn _ _ c.loop-i.invariant.2 (sym c.candidate_ok.ensures ∙ not-false _ c.if-not-candidate_ok.false))
+loop-i-preserved c = (refl, omega arith, every-turn _ _ c.loop-i.invariant.2 (sym c.candidate_ok.ensures ∙ c.if-not-candidate_ok.false))
 
 pub returns : goal.returns
-returns c = every-done _ _ _ c.loop-i.invariant.2 (omega arith) ∙ all-given (candidate_ok c.args.known) (given_of 0 c.args.elements.now c.args.intrinsics.now c.args.near.now c.args.raw-logs.now [])
+returns c = every-done _ _ _ c.loop-i.invariant.2 (omega arith) ∙ all-given (candidate_ok c.args.known) (given_of 0 c.args.elements.now c.args.intrinsics.now c.args.near.now c.args.raw_logs.now [])

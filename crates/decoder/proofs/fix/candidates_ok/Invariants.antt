@@ -1,17 +1,12 @@
 -- What the loop of `decoder::fix::candidates_ok` keeps.
-use native.Mathlib.Omega.{arith}
-use borrow.Author.Rules.{rules}
-use mathlib.Core.Path.{◌≡◌, refl, sym, ◌∙◌}
+use mathlib.Core.Path.{◌≡◌}
 use mathlib.Core.Bool.{true}
 use mathlib.Core.List.{[]}
 use Prim.Native.Nat.{◌≤◌, ◌-◌}
 use lib.ListN.{length, get_or}
-use borrow.Author.Tests.{not-true, not-false}
 use Rattle.lists.specs.Loops.{every_below}
 use Rattle.journal.specs.Row.{candidate_given, given_of}
 use Rattle.journal.specs.Ranges.{candidate_ok}
-use Rattle.lists.proofs.Loops.{every-none, every-turn, every-done, every-stop}
-use Rattle.decoder.proofs.Tests.{all-given}
 use Rattle.decoder.proofs.fix.candidates_ok.Given as goal
 
 abbrev pub invariant-loop-i : goal.invariant-loop-i

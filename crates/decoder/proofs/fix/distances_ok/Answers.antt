@@ -1,13 +1,7 @@
 -- `decoder::fix::distances_ok` meets its contract.
 use native.Mathlib.Omega.{arith}
-use borrow.Author.Rules.{rules}
-use mathlib.Core.Path.{◌≡◌, refl, sym, ◌∙◌}
-use mathlib.Core.Bool.{true}
-use Prim.Native.Nat.{◌≤◌, ◌-◌}
-use lib.ListN.{length, get_or}
+use mathlib.Core.Path.{refl, sym, ◌∙◌}
 use lib.Ieee.{nan}
-use borrow.Author.Tests.{not-true, not-false}
-use Rattle.lists.specs.Loops.{every_below}
 use Rattle.journal.specs.Ranges.{distance_ok}
 use Rattle.lists.proofs.Loops.{every-none, every-turn, every-done, every-stop}
 use Rattle.decoder.proofs.Tests.{all_list}
@@ -23,7 +17,7 @@ pub bounds-distances-i : goal.bounds-distances-i
 bounds-distances-i c = omega arith
 
 pub returns-then-not-distance_ok : goal.returns-then-not-distance_ok
-returns-then-not-distance_ok c = every-stop c.loop-i.i _ _ (omega arith) (sym c.distance_ok.ensures ∙ not-true _ c.if-not-distance_ok.true) ∙ all_list distance_ok c.args.distances.now nan
+returns-then-not-distance_ok c = every-stop c.loop-i.i _ _ (omega arith) (sym c.distance_ok.ensures ∙ c.if-not-distance_ok.true) ∙ all_list distance_ok c.args.distances.now nan
 
 pub overflow_step-i : goal.overflow_step-i
 overflow_step-i c = omega arith
@@ -32,7 +26,7 @@ pub loop-i-smaller : goal.loop-i-smaller
 loop-i-smaller c = omega arith
 
 pub loop-i-preserved : goal.loop-i-preserved
-loop-i-preserved c = (refl, omega arith, every-turn _ _ c.loop-i.invariant.2 (sym c.distance_ok.ensures ∙ not-false _ c.if-not-distance_ok.false))
+loop-i-preserved c = (refl, omega arith, every-turn _ _ c.loop-i.invariant.2 (sym c.distance_ok.ensures ∙ c.if-not-distance_ok.false))
 
 pub returns : goal.returns
 returns c = every-done _ _ _ c.loop-i.invariant.2 (omega arith) ∙ all_list distance_ok c.args.distances.now nan

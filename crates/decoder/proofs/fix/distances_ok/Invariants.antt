@@ -1,16 +1,11 @@
 -- What the loop of `decoder::fix::distances_ok` keeps.
-use native.Mathlib.Omega.{arith}
-use borrow.Author.Rules.{rules}
-use mathlib.Core.Path.{◌≡◌, refl, sym, ◌∙◌}
+use mathlib.Core.Path.{◌≡◌}
 use mathlib.Core.Bool.{true}
 use Prim.Native.Nat.{◌≤◌, ◌-◌}
 use lib.ListN.{length, get_or}
 use lib.Ieee.{nan}
-use borrow.Author.Tests.{not-true, not-false}
 use Rattle.lists.specs.Loops.{every_below}
 use Rattle.journal.specs.Ranges.{distance_ok}
-use Rattle.lists.proofs.Loops.{every-none, every-turn, every-done, every-stop}
-use Rattle.decoder.proofs.Tests.{all_list}
 use Rattle.decoder.proofs.fix.distances_ok.Given as goal
 
 abbrev pub invariant-loop-i : goal.invariant-loop-i

@@ -1,13 +1,7 @@
 -- `decoder::known::row_known` meets its contract.
 use native.Mathlib.Omega.{arith}
-use mathlib.Core.Path.{◌≡◌, refl, ◌∙◌}
-use mathlib.Core.Bool.{true}
-use Prim.Native.Nat.{◌+◌, ◌*◌, ◌%◌, ◌≤◌, ◌-◌}
-use lib.ListN.{get_or}
-use lib.Dec.{ltb}
+use mathlib.Core.Path.{refl, ◌∙◌}
 use borrow.Author.Tests.{lt-ltb, le-ltb}
-use Rattle.lists.specs.Loops.{every_below}
-use Rattle.journal.specs.Record.{first_cell, head_count}
 use Rattle.lists.proofs.Loops.{every-none, every-turn, every-done, every-stop}
 use Rattle.journal.proofs.RecordRead.{row-size}
 use Rattle.decoder.proofs.KnownRows.{row-tested}

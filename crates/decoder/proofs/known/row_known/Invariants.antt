@@ -1,16 +1,11 @@
 -- What the loop of `decoder::known::row_known` keeps.
-use native.Mathlib.Omega.{arith}
-use mathlib.Core.Path.{◌≡◌, refl, ◌∙◌}
+use mathlib.Core.Path.{◌≡◌}
 use mathlib.Core.Bool.{true}
 use Prim.Native.Nat.{◌+◌, ◌*◌, ◌%◌, ◌≤◌, ◌-◌}
 use lib.ListN.{get_or}
 use lib.Dec.{ltb}
-use borrow.Author.Tests.{lt-ltb, le-ltb}
 use Rattle.lists.specs.Loops.{every_below}
 use Rattle.journal.specs.Record.{first_cell, head_count}
-use Rattle.lists.proofs.Loops.{every-none, every-turn, every-done, every-stop}
-use Rattle.journal.proofs.RecordRead.{row-size}
-use Rattle.decoder.proofs.KnownRows.{row-tested}
 use Rattle.decoder.proofs.known.row_known.Given as goal
 
 abbrev pub invariant-loop-i : goal.invariant-loop-i

@@ -2,12 +2,11 @@
 use native.Mathlib.Omega.{arith}
 use mathlib.Core.Path.{sym, ap, ◌∙◌}
 use mathlib.Core.List.{List}
-use Prim.Native.Nat.{ℕ, ◌≤◌, ◌-◌}
-use borrow.Author.Tests.{not-true, not-false}
+use Prim.Native.Nat.{ℕ}
 use Rattle.journal.specs.Record.{read_row}
 use Rattle.decoder.specs.Call.{known_row}
 use Rattle.journal.proofs.Stores.{take_rest}
-use Rattle.decoder.proofs.KnownRows.{KnownTo, known_start, known-room, known-inside, known-stop, known-turn, known-done}
+use Rattle.decoder.proofs.KnownRows.{known_start, known-room, known-inside, known-stop, known-turn, known-done}
 use Rattle.decoder.proofs.known.rows_known.Goals as goal
 
 pub loop-k-init : goal.loop-k-init
@@ -44,7 +43,7 @@ pub row_known-requires : goal.row_known-requires
 row_known-requires c = rw (take_rest _ c.args.journal.now) (known-inside _ _ _ _ _ c.loop-k.invariant.1 c.loop-k-test.true)
 
 pub returns-then-not-row_known : goal.returns-then-not-row_known
-returns-then-not-row_known c = known-stop _ _ _ _ _ c.loop-k.invariant.1 c.loop-k-test.true (ap (λ (l : List ℕ). known_row c.args.known (read_row l)) (sym (take_rest _ c.args.journal.now)) ∙ sym c.row_known.ensures ∙ not-true _ c.if-not-row_known.true)
+returns-then-not-row_known c = known-stop _ _ _ _ _ c.loop-k.invariant.1 c.loop-k-test.true (ap (λ (l : List ℕ). known_row c.args.known (read_row l)) (sym (take_rest _ c.args.journal.now)) ∙ sym c.row_known.ensures ∙ c.if-not-row_known.true)
 
 pub overflow_add-k : goal.overflow_add-k
 overflow_add-k c = omega arith
@@ -53,7 +52,7 @@ pub loop-k-smaller : goal.loop-k-smaller
 loop-k-smaller c = omega arith
 
 pub loop-k-preserved : goal.loop-k-preserved
-loop-k-preserved c = (omega arith, known-turn _ _ _ _ _ c.loop-k.invariant.1 c.loop-k-test.true (ap (λ (l : List ℕ). known_row c.args.known (read_row l)) (sym (take_rest _ c.args.journal.now)) ∙ sym c.row_known.ensures ∙ not-false _ c.if-not-row_known.false))
+loop-k-preserved c = (omega arith, known-turn _ _ _ _ _ c.loop-k.invariant.1 c.loop-k-test.true (ap (λ (l : List ℕ). known_row c.args.known (read_row l)) (sym (take_rest _ c.args.journal.now)) ∙ sym c.row_known.ensures ∙ c.if-not-row_known.false))
 
 pub returns : goal.returns
 returns c = known-done _ _ _ _ _ c.loop-k.invariant.1 (omega arith)

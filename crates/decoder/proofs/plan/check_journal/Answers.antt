@@ -1,6 +1,5 @@
 -- `decoder::plan::check_journal` meets its contract.
 use mathlib.Core.Path.{sym, ◌∙◌}
-use borrow.Author.Rules.{rules}
 use Rattle.decoder.proofs.Plans.{planned-none}
 use Rattle.decoder.proofs.plan.check_journal.Goals as goal
 

@@ -1,11 +1,7 @@
 -- `journal::buffer::copy_fields` meets its contract.
-use borrow.Author.Rules.{rules}
-use mathlib.Core.Path.{◌≡◌, refl}
-use Prim.Native.Nat.{◌+◌, ◌*◌, ◌-◌, ◌/◌, ◌%◌, ◌≤◌}
+use mathlib.Core.Path.{refl}
 use native.Mathlib.Omega.{arith}
-use lib.ListN.{length, get_or, length-set}
-use Rattle.journal.specs.Record.{first_cell}
-use Rattle.journal.specs.inner.Buffer.{entries_stored}
+use lib.ListN.{length-set}
 use Rattle.lists.proofs.Loops.{up_to-none, up_to-turn, up_to-done}
 use Rattle.journal.proofs.buffer.copy_fields.Goals as goal
 

@@ -1,12 +1,9 @@
 -- What the loop of `journal::buffer::copy_fields` keeps.
-use borrow.Author.Rules.{rules}
-use mathlib.Core.Path.{◌≡◌, refl}
+use mathlib.Core.Path.{◌≡◌}
 use Prim.Native.Nat.{◌+◌, ◌*◌, ◌-◌, ◌/◌, ◌%◌, ◌≤◌}
-use native.Mathlib.Omega.{arith}
-use lib.ListN.{length, get_or, length-set}
+use lib.ListN.{length, get_or}
 use Rattle.journal.specs.Record.{first_cell}
 use Rattle.journal.specs.inner.Buffer.{entries_stored}
-use Rattle.lists.proofs.Loops.{up_to-none, up_to-turn, up_to-done}
 use Rattle.journal.proofs.buffer.copy_fields.Given as goal
 
 abbrev pub invariant-loop-k : goal.invariant-loop-k

@@ -1,12 +1,8 @@
 -- `journal::buffer::copy_floats` meets its contract.
-use borrow.Author.Rules.{rules}
-use mathlib.Core.Path.{◌≡◌, refl}
-use Prim.Native.Nat.{◌+◌, ◌*◌, ◌-◌, ◌≤◌}
+use mathlib.Core.Path.{refl}
 use native.Mathlib.Omega.{arith}
 use native.Mathlib.Nat.{mul-zero}
-use lib.ListN.{length, length-set}
-use Rattle.journal.specs.Record.{float_at}
-use Rattle.journal.specs.inner.Buffer.{entries_stored}
+use lib.ListN.{length-set}
 use Rattle.lists.proofs.Loops.{up_to-none, up_to-turn, up_to-done}
 use Rattle.journal.proofs.Buffers.{next_place, last-place}
 use Rattle.journal.proofs.buffer.copy_floats.Goals as goal

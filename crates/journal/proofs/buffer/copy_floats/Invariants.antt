@@ -1,14 +1,9 @@
 -- What the loop of `journal::buffer::copy_floats` keeps.
-use borrow.Author.Rules.{rules}
-use mathlib.Core.Path.{◌≡◌, refl}
+use mathlib.Core.Path.{◌≡◌}
 use Prim.Native.Nat.{◌+◌, ◌*◌, ◌-◌, ◌≤◌}
-use native.Mathlib.Omega.{arith}
-use native.Mathlib.Nat.{mul-zero}
-use lib.ListN.{length, length-set}
+use lib.ListN.{length}
 use Rattle.journal.specs.Record.{float_at}
 use Rattle.journal.specs.inner.Buffer.{entries_stored}
-use Rattle.lists.proofs.Loops.{up_to-none, up_to-turn, up_to-done}
-use Rattle.journal.proofs.Buffers.{next_place, last-place}
 use Rattle.journal.proofs.buffer.copy_floats.Given as goal
 
 abbrev pub invariant-loop-k : goal.invariant-loop-k

@@ -1,7 +1,6 @@
 -- `journal::call::end_before` meets its contract.
-use Prim.Native.Nat.{◌-◌, ◌≤◌}
 use native.Mathlib.Omega.{arith}
-use Rattle.journal.proofs.Ends.{some_words, Ended, ended-start, ended-room, ended-turn, ended-done}
+use Rattle.journal.proofs.Ends.{some_words, ended-start, ended-room, ended-turn, ended-done}
 use Rattle.journal.proofs.call.end_before.Goals as goal
 
 pub bounds-journal-0 : goal.bounds-journal-0

@@ -1,7 +1,6 @@
 -- What the loop of `journal::call::end_before` keeps.
 use Prim.Native.Nat.{◌-◌, ◌≤◌}
-use native.Mathlib.Omega.{arith}
-use Rattle.journal.proofs.Ends.{some_words, Ended, ended-start, ended-room, ended-turn, ended-done}
+use Rattle.journal.proofs.Ends.{Ended}
 use Rattle.journal.proofs.call.end_before.Given as goal
 
 abbrev pub invariant-loop-k : goal.invariant-loop-k

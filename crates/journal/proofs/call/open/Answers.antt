@@ -3,7 +3,6 @@ use Prim.Native.Nat.{ℕ}
 use native.Mathlib.Omega.{arith}
 use mathlib.Core.List.{List, [], ◌∷◌}
 use mathlib.Core.Path.{◌≡◌, refl}
-use borrow.Author.Rules.{rules}
 use lib.ListN.{length, set}
 use Rattle.journal.specs.declared.call.Answer.TheVariants.{Done, Refused}
 use Rattle.journal.specs.Call.{opening}

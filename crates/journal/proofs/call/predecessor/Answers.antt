@@ -1,7 +1,6 @@
 -- `journal::call::predecessor` meets its contract.
 use native.Mathlib.Omega.{arith}
 use mathlib.Core.Path.{sym, ◌∙◌}
-use borrow.Author.Rules.{rules}
 use Rattle.journal.proofs.Preceding.{preceding-not, preceding-told, row_fits}
 use Rattle.journal.proofs.call.predecessor.Goals as goal
 

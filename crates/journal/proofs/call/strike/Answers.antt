@@ -1,14 +1,8 @@
 -- `journal::call::strike` meets its contract.
 use native.Mathlib.Omega.{arith}
 use mathlib.Core.Path.{sym, ◌∙◌}
-use borrow.Author.Rules.{rules}
-use Rattle.journal.specs.inner.Strike.{RowsAtLeast}
 use Rattle.journal.proofs.Ends.{some_words, end-small, struck-not, struck-stand, struck-more, struck-done}
 use Rattle.journal.proofs.call.strike.Goals as goal
-
--- n rows stand
-stand : (c : place.After-end_before-end) → RowsAtLeast c.args.journal.now c.args.n
-stand c = struck-stand _ _ _ _ _ _ (sym c.read_journal-found.ensures ∙ c.in-WellFormed.is) c.if-rows-n.false
 
 pub returns-then-rows-n : goal.returns-then-rows-n
 returns-then-rows-n c =
@@ -21,13 +15,13 @@ pub end_before-end-requires : goal.end_before-end-requires
 end_before-end-requires c = struck-stand _ _ _ _ _ _ (sym c.read_journal-found.ensures ∙ c.in-WellFormed.is) c.if-rows-n.false
 
 pub overflow_cast-journal : goal.overflow_cast-journal
-overflow_cast-journal c = omega (arith, c.end_before-end.ensures, end-small _ _ (stand c))
+overflow_cast-journal c = omega (arith, c.end_before-end.ensures, end-small _ _ (struck-stand _ _ _ _ _ _ (sym c.read_journal-found.ensures ∙ c.in-WellFormed.is) c.if-rows-n.false))
 
 pub overflow_add-journal : goal.overflow_add-journal
-overflow_add-journal c = omega (arith, c.end_before-end.ensures, end-small _ _ (stand c))
+overflow_add-journal c = omega (arith, c.end_before-end.ensures, end-small _ _ (struck-stand _ _ _ _ _ _ (sym c.read_journal-found.ensures ∙ c.in-WellFormed.is) c.if-rows-n.false))
 
 pub bounds-journal-0 : goal.bounds-journal-0
-bounds-journal-0 c = some_words _ _ (stand c).reads
+bounds-journal-0 c = some_words _ _ (struck-stand _ _ _ _ _ _ (sym c.read_journal-found.ensures ∙ c.in-WellFormed.is) c.if-rows-n.false).reads
 
 pub returns-in-NotWellFormed : goal.returns-in-NotWellFormed
 returns-in-NotWellFormed c =

@@ -1,11 +1,9 @@
 -- `journal::fix::gather` meets its contract.
-use mathlib.Core.Path.{◌≡◌, refl, sym}
+use mathlib.Core.Path.{refl, sym}
 use mathlib.Core.List.{[]}
-use Prim.Native.Nat.{◌≤◌, ◌-◌}
 use native.Mathlib.Omega.{arith}
-use lib.ListN.{length}
-use Rattle.journal.specs.Row.{given_of, fix_given}
-use Rattle.journal.proofs.Gathered.{Gathered, gathered_none, gathered-turn, gathered-done, count-given, own-given}
+use Rattle.journal.specs.Row.{given_of}
+use Rattle.journal.proofs.Gathered.{gathered_none, gathered-turn, gathered-done, count-given, own-given}
 use Rattle.journal.proofs.fix.gather.Goals as goal
 
 pub no_candidates-list-requires : goal.no_candidates-list-requires
@@ -58,5 +56,5 @@ loop-i-preserved c = let loop = c.loop-i in
 pub returns : goal.returns
 returns c = let a = c.args in
     let loop = c.loop-i in
-    let many = count-given (given_of a.minute a.elements.now a.intrinsics.now a.near.now a.raw-logs.now []) in
+    let many = count-given (given_of a.minute a.elements.now a.intrinsics.now a.near.now a.raw_logs.now []) in
     gathered-done _ loop.list loop.invariant.2 (omega (arith, many)) (omega (arith, many, c.requires.few)) _ refl (sym many) refl

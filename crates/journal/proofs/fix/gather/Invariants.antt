@@ -1,11 +1,10 @@
 -- What the loop of `journal::fix::gather` keeps.
-use mathlib.Core.Path.{◌≡◌, refl, sym}
+use mathlib.Core.Path.{◌≡◌}
 use mathlib.Core.List.{[]}
 use Prim.Native.Nat.{◌≤◌, ◌-◌}
-use native.Mathlib.Omega.{arith}
 use lib.ListN.{length}
 use Rattle.journal.specs.Row.{given_of, fix_given}
-use Rattle.journal.proofs.Gathered.{Gathered, gathered_none, gathered-turn, gathered-done, count-given, own-given}
+use Rattle.journal.proofs.Gathered.{Gathered}
 use Rattle.journal.proofs.fix.gather.Given as goal
 
 abbrev pub invariant-loop-i : goal.invariant-loop-i

@@ -1,5 +1,4 @@
 -- `journal::fix::own_candidate` meets its contract.
-use borrow.Author.Rules.{rules}
 use Rattle.journal.proofs.Gathered.{own_in}
 use Rattle.journal.proofs.fix.own_candidate.Goals as goal
 

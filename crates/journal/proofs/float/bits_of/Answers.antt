@@ -1,7 +1,6 @@
 -- `journal::float::bits_of` meets its contract.
 use mathlib.Core.Path.{◌≡◌, refl, sym, ap, ◌∙◌, subst}
 use mathlib.Core.Bool.{false, not}
-use borrow.Author.Rules.{rules}
 use denote.Floats.{passes}
 use lib.Dec.{T}
 use lib.Ieee.{Float, nan, inf, fin, ne, is_nan, binary64, to_bits}

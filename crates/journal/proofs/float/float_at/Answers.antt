@@ -1,9 +1,8 @@
 -- `journal::float::float_at` meets its contract.
-use Prim.Native.Nat.{ℕ, ◌+◌, ◌%◌, ◌<◌}
+use Prim.Native.Nat.{ℕ, ◌%◌, ◌<◌}
 use native.Mathlib.Omega.{arith}
 use mathlib.Core.Path.{◌≡◌, refl, sym, ◌∙◌, subst}
 use mathlib.Core.Bool.{true}
-use borrow.Author.Rules.{rules}
 use borrow.Author.Tests.{lt-ltb, le-ltb}
 use lib.Ieee.{Float, inf, fin, div, binary64, of_bits, nan, is_nan}
 use lib.Dec.{T}
@@ -31,10 +30,10 @@ pub bounds-words-at : goal.bounds-words-at
 bounds-words-at c = omega arith
 
 pub overflow_cast-bits : goal.overflow_cast-bits
-overflow_cast-bits c = omega (arith, c.shared_slice_known-1.given c.args.at)
+overflow_cast-bits c = omega arith
 
 pub overflow_mul-bits : goal.overflow_mul-bits
-overflow_mul-bits c = omega (arith, c.shared_slice_known-1.given c.args.at)
+overflow_mul-bits c = omega arith
 
 pub overflow_add-bits : goal.overflow_add-bits
 overflow_add-bits c = omega arith
@@ -46,10 +45,10 @@ pub bounds-words-at-2 : goal.bounds-words-at-2
 bounds-words-at-2 c = omega arith
 
 pub overflow_cast-bits-2 : goal.overflow_cast-bits-2
-overflow_cast-bits-2 c = omega (arith, c.shared_slice_known-2-1.given (c.args.at + 1))
+overflow_cast-bits-2 c = omega arith
 
 pub overflow_add-bits-2 : goal.overflow_add-bits-2
-overflow_add-bits-2 c = omega (arith, c.shared_slice_known-1.given c.args.at, c.shared_slice_known-2-1.given (c.args.at + 1))
+overflow_add-bits-2 c = omega arith
 
 pub returns-then-bits-gt9218868437227405312 : goal.returns-then-bits-gt9218868437227405312
 returns-then-bits-gt9218868437227405312 c = zero_by_zero ∙ sym (reads-nan _ c.if-bits-gt9218868437227405312.true)

@@ -1,7 +1,6 @@
 -- `journal::float::is_finite` meets its contract.
 use mathlib.Core.Bool.{true, false}
 use mathlib.Core.Path.{◌≡◌, refl}
-use borrow.Author.Rules.{rules}
 use lib.Ieee.Scale.{finite}
 use lib.Ieee.{Float, nan, inf, fin, lt}
 use Rattle.lists.proofs.Loops.{clash}

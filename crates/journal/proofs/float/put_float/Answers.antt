@@ -1,7 +1,6 @@
 -- `journal::float::put_float` meets its contract.
 use native.Mathlib.Numerals.{add-one}
 use native.Mathlib.Omega.{arith}
-use borrow.Author.Rules.{rules}
 use Rattle.journal.proofs.float.put_float.Goals as goal
 
 pub overflow_cast-words : goal.overflow_cast-words
@@ -23,4 +22,4 @@ pub offset_bounds-words-at-2 : goal.offset_bounds-words-at-2
 offset_bounds-words-at-2 c = omega arith
 
 pub returns : goal.returns
-returns c = rw (add-one, c.«bits_of».ensures)
+returns c = rw (add-one, c.bits_of-bits.ensures)

@@ -1,14 +1,12 @@
 -- `journal::halves::finite_reads` meets its contract.
-use Rattle.journal.proofs.HighHalf.{above, finite-half}
 use borrow.Author.Rules.{rules}
+use Rattle.journal.proofs.HighHalf.{above, finite-half}
 use mathlib.Core.Path.{sym, ◌∙◌}
-use Prim.Native.Nat.{◌+◌}
-use native.Mathlib.Omega.{arith}
 use Rattle.journal.proofs.halves.finite_reads.Goals as goal
 
 pub returns-then-is_above : goal.returns-then-is_above
 returns-then-is_above c = let t = above _ _ (sym c.is_above.ensures ∙ c.if-is_above.true) in
-    sym (finite-half _ _ (omega (arith, c.shared_slice_known-2-1.given (c.args.at + 1))) t.set t.below)
+    sym (finite-half _ _ (search rules) t.set t.below)
 
 pub returns : goal.returns
 returns c = rw (← c.float_at.ensures) c.is_finite.ensures

@@ -1,10 +1,8 @@
 -- `journal::halves::greatest_half` meets its contract.
-use Prim.Native.Nat.{ℕ, ◌+◌, ◌*◌, ◌-◌, ◌<◌, ◌≤◌}
 use borrow.Author.Count.{below_more}
-use lib.ListN.{get_or}
-use mathlib.Core.Logic.{⊎_elim}
 use native.Mathlib.Omega.{arith}
 use Rattle.journal.proofs.halves.greatest_half.Goals as goal
+use Rattle.journal.proofs.halves.greatest_half.Goals.{then-greatest-half, else-greatest-half}
 
 pub loop-k-init : goal.loop-k-init
 loop-k-init c = (omega arith, λ j h. omega arith)
@@ -28,12 +26,10 @@ pub loop-k-smaller : goal.loop-k-smaller
 loop-k-smaller c = omega arith
 
 pub loop-k-preserved : goal.loop-k-preserved
-loop-k-preserved c = (
-  omega arith,
-  below_more _ _
-      (λ j h. ⊎_elim (λ w. omega (arith, c.loop-k.invariant.1 j h)) (λ w. omega (arith, c.loop-k.invariant.1 j h)) c.if-greatest-half.branch)
-      (⊎_elim (λ w. omega arith) (λ w. omega arith) c.if-greatest-half.branch),
-)
+loop-k-preserved c = elim c.if-greatest-half.branch [
+  | then-greatest-half w ↦ (omega arith, below_more _ _ (λ j h. omega (arith, c.loop-k.invariant.1 j h)) (omega arith))
+  | else-greatest-half w ↦ (omega arith, below_more _ _ (λ j h. omega (arith, c.loop-k.invariant.1 j h)) (omega arith))
+]
 
 pub returns : goal.returns
 returns c = λ k h. c.loop-k.invariant.1 k (omega arith)

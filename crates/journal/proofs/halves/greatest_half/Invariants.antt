@@ -1,9 +1,6 @@
 -- What the loop of `journal::halves::greatest_half` keeps.
 use Prim.Native.Nat.{ℕ, ◌+◌, ◌*◌, ◌-◌, ◌<◌, ◌≤◌}
-use borrow.Author.Count.{below_more}
 use lib.ListN.{get_or}
-use mathlib.Core.Logic.{⊎_elim}
-use native.Mathlib.Omega.{arith}
 use Rattle.journal.proofs.halves.greatest_half.Given as goal
 
 abbrev pub invariant-loop-k : goal.invariant-loop-k

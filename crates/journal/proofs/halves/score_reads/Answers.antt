@@ -1,14 +1,12 @@
 -- `journal::halves::score_reads` meets its contract.
-use Rattle.journal.proofs.HighHalf.{above, score-half}
 use borrow.Author.Rules.{rules}
+use Rattle.journal.proofs.HighHalf.{above, score-half}
 use mathlib.Core.Path.{sym, ◌∙◌}
-use Prim.Native.Nat.{◌+◌}
-use native.Mathlib.Omega.{arith}
 use Rattle.journal.proofs.halves.score_reads.Goals as goal
 
 pub returns-then-is_above : goal.returns-then-is_above
 returns-then-is_above c = let t = above _ _ (sym c.is_above.ensures ∙ c.if-is_above.true) in
-    sym (score-half _ _ (omega (arith, c.shared_slice_known-2-1.given (c.args.at + 1))) t.set _ t.below)
+    sym (score-half _ _ (search rules) t.set _ t.below)
 
 pub returns : goal.returns
 returns c = rw (← c.float_at.ensures) c.score_ok.ensures

@@ -1,6 +1,5 @@
 -- `journal::lengths::length_in` meets its contract.
 use mathlib.Core.Path.{◌∙◌}
-use borrow.Author.Rules.{rules}
 use Rattle.journal.specs.inner.LengthTable.{LengthTable}
 use Rattle.journal.proofs.LengthTable.{length-small}
 use Rattle.journal.proofs.lengths.length_in.Goals as goal

@@ -1,5 +1,4 @@
 -- `journal::range::distance_ok` meets its contract.
-use borrow.Author.Rules.{rules}
 use lib.Ieee.{of_bits}
 use Rattle.journal.specs.Ranges.{distance_ok}
 use Rattle.journal.proofs.range.distance_ok.Goals as goal

@@ -1,5 +1,4 @@
 -- `journal::range::intrinsic_ok` meets its contract.
-use borrow.Author.Rules.{rules}
 use lib.Ieee.{of_bits}
 use Rattle.journal.specs.Ranges.{intrinsic_ok}
 use Rattle.journal.proofs.range.intrinsic_ok.Goals as goal

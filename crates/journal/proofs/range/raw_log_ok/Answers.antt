@@ -1,6 +1,5 @@
 -- `journal::range::raw_log_ok` meets its contract.
 use mathlib.Core.Path.{sym, ◌∙◌}
-use borrow.Author.Rules.{rules}
 use lib.Ieee.{of_bits, neg}
 use Rattle.journal.specs.Ranges.{raw_log_ok}
 use Rattle.journal.proofs.range.raw_log_ok.Goals as goal

@@ -1,6 +1,5 @@
 -- `journal::range::score_ok` meets its contract.
 use mathlib.Core.Path.{sym, ◌∙◌}
-use borrow.Author.Rules.{rules}
 use lib.Ieee.{of_bits}
 use Rattle.journal.specs.Ranges.{score_ok}
 use Rattle.journal.proofs.range.score_ok.Goals as goal

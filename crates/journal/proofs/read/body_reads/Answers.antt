@@ -1,8 +1,7 @@
 -- `journal::read::body_reads` meets its contract.
 use native.Mathlib.Omega.{arith}
 use mathlib.Core.Path.{sym, ◌∙◌}
-use borrow.Author.Tests.{eq-eqb, ne_eqb, not-true, not-false}
-use borrow.Author.Rules.{rules}
+use borrow.Author.Tests.{eq-eqb, ne_eqb}
 use Rattle.journal.specs.inner.Check.{body_reads}
 use Rattle.journal.specs.Record.{record_length}
 use Rattle.journal.proofs.Records.{body-last}
@@ -28,7 +27,7 @@ bounds-words-2 c = omega arith
 
 pub returns-then-not-minute_reads : goal.returns-then-not-minute_reads
 unfolding body_reads
-returns-then-not-minute_reads c = simp (eq-eqb _ _ c.if-words-place.false, sym c.minute_reads.ensures ∙ not-true _ c.if-not-minute_reads.true)
+returns-then-not-minute_reads c = simp (eq-eqb _ _ c.if-words-place.false, sym c.minute_reads.ensures ∙ c.if-not-minute_reads.true)
 
 pub overflow_cast-p : goal.overflow_cast-p
 overflow_cast-p c = omega arith
@@ -39,7 +38,7 @@ cells_read-requires c = omega arith
 
 pub returns-then-not-cells_read : goal.returns-then-not-cells_read
 unfolding body_reads
-returns-then-not-cells_read c = simp (eq-eqb _ _ c.if-words-place.false, sym c.minute_reads.ensures ∙ not-false _ c.if-not-minute_reads.false, sym c.cells_read.ensures ∙ not-true _ c.if-not-cells_read.true)
+returns-then-not-cells_read c = simp (eq-eqb _ _ c.if-words-place.false, sym c.minute_reads.ensures ∙ c.if-not-minute_reads.false, sym c.cells_read.ensures ∙ c.if-not-cells_read.true)
 
 pub overflow_mul-at : goal.overflow_mul-at
 overflow_mul-at c = omega arith
@@ -62,7 +61,7 @@ overflow_add-n c = omega arith
 
 pub returns-then-words-at : goal.returns-then-words-at
 unfolding body_reads
-returns-then-words-at c = simp (eq-eqb _ _ c.if-words-place.false, sym c.minute_reads.ensures ∙ not-false _ c.if-not-minute_reads.false, sym c.cells_read.ensures ∙ not-false _ c.if-not-cells_read.false, ← c.distance_count-n.ensures.fact_1, ne_eqb _ _ c.if-words-at.true)
+returns-then-words-at c = simp (eq-eqb _ _ c.if-words-place.false, sym c.minute_reads.ensures ∙ c.if-not-minute_reads.false, sym c.cells_read.ensures ∙ c.if-not-cells_read.false, ← c.distance_count-n.ensures.fact_1, ne_eqb _ _ c.if-words-at.true)
 
 pub overflow_add-at-2 : goal.overflow_add-at-2
 overflow_add-at-2 c = omega arith
@@ -73,7 +72,7 @@ distances_read-requires c = omega (arith, c.distance_count-n.ensures.fact_1)
 
 pub returns-then-not-distances_read : goal.returns-then-not-distances_read
 unfolding body_reads
-returns-then-not-distances_read c = simp (eq-eqb _ _ c.if-words-place.false, sym c.minute_reads.ensures ∙ not-false _ c.if-not-minute_reads.false, sym c.cells_read.ensures ∙ not-false _ c.if-not-cells_read.false, ← c.distance_count-n.ensures.fact_1, eq-eqb _ _ c.if-words-at.false, sym c.distances_read.ensures ∙ not-true _ c.if-not-distances_read.true)
+returns-then-not-distances_read c = simp (eq-eqb _ _ c.if-words-place.false, sym c.minute_reads.ensures ∙ c.if-not-minute_reads.false, sym c.cells_read.ensures ∙ c.if-not-cells_read.false, ← c.distance_count-n.ensures.fact_1, eq-eqb _ _ c.if-words-at.false, sym c.distances_read.ensures ∙ c.if-not-distances_read.true)
 
 pub overflow_sub-last : goal.overflow_sub-last
 unfolding record_length
@@ -96,4 +95,4 @@ overflow_add-result c = omega (arith, c.distance_count-n.ensures)
 
 pub returns : goal.returns
 returns c = let s = c.args in
-    body-last s.place s.since s.c s.p s.row s.words.now _ _ c.requires.end_value.0 c.distance_count-n.ensures.fact_1 (eq-eqb _ _ c.if-words-place.false) (sym c.minute_reads.ensures ∙ not-false _ c.if-not-minute_reads.false) (sym c.cells_read.ensures ∙ not-false _ c.if-not-cells_read.false) (eq-eqb _ _ c.if-words-at.false) (sym c.distances_read.ensures ∙ not-false _ c.if-not-distances_read.false)
+    body-last s.place s.since s.c s.p s.row s.words.now _ _ c.requires.end_value.0 c.distance_count-n.ensures.fact_1 (eq-eqb _ _ c.if-words-place.false) (sym c.minute_reads.ensures ∙ c.if-not-minute_reads.false) (sym c.cells_read.ensures ∙ c.if-not-cells_read.false) (eq-eqb _ _ c.if-words-at.false) (sym c.distances_read.ensures ∙ c.if-not-distances_read.false)

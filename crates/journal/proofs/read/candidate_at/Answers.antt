@@ -1,7 +1,6 @@
 -- `journal::read::candidate_at` meets its contract.
 use mathlib.Core.Path.{sym, ap}
 use native.Mathlib.Omega.{arith}
-use borrow.Author.Rules.{rules}
 use Rattle.journal.specs.Row.{Cell}
 use Rattle.journal.proofs.Tests.{cell_at}
 use Rattle.journal.proofs.read.candidate_at.Goals as goal

@@ -1,15 +1,7 @@
 -- `journal::read::cells_read` meets its contract.
-use Prim.Native.Nat.{◌+◌, ◌*◌, ◌-◌, ◌≤◌}
 use native.Mathlib.Omega.{arith}
-use mathlib.Core.Bool.{true}
-use mathlib.Core.Path.{◌≡◌, sym, ◌∙◌}
-use borrow.Author.Tests.{not-true, not-false}
-use lib.ListN.{drop}
+use mathlib.Core.Path.{sym, ◌∙◌}
 use Rattle.lists.proofs.Loops.{every-none, every-turn, every-done, every-stop}
-use Rattle.lists.specs.Loops.{every_below}
-use Rattle.journal.specs.inner.Check.{well_read}
-use Rattle.journal.specs.Record.{first_cell, cell_words, read_cell}
-use Rattle.journal.specs.Ranges.{cell_ok}
 use Rattle.journal.proofs.read.cells_read.Goals as goal
 
 pub loop-k-init : goal.loop-k-init
@@ -25,7 +17,7 @@ pub cell_reads-requires : goal.cell_reads-requires
 cell_reads-requires c = omega arith
 
 pub returns-then-not-cell_reads : goal.returns-then-not-cell_reads
-returns-then-not-cell_reads c = every-stop c.loop-k.k _ _ c.loop-k-test.true (sym c.cell_reads.ensures ∙ not-true _ c.if-not-cell_reads.true)
+returns-then-not-cell_reads c = every-stop c.loop-k.k _ _ c.loop-k-test.true (sym c.cell_reads.ensures ∙ c.if-not-cell_reads.true)
 
 pub overflow_add-k-in-loop-k : goal.overflow_add-k-in-loop-k
 overflow_add-k-in-loop-k c = omega arith
@@ -34,7 +26,7 @@ pub loop-k-smaller : goal.loop-k-smaller
 loop-k-smaller c = omega arith
 
 pub loop-k-preserved : goal.loop-k-preserved
-loop-k-preserved c = (omega arith, every-turn _ _ c.loop-k.invariant.1 (sym c.cell_reads.ensures ∙ not-false _ c.if-not-cell_reads.false))
+loop-k-preserved c = (omega arith, every-turn _ _ c.loop-k.invariant.1 (sym c.cell_reads.ensures ∙ c.if-not-cell_reads.false))
 
 pub returns : goal.returns
 returns c = every-done _ _ _ c.loop-k.invariant.1 (omega arith)

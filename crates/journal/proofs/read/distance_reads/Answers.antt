@@ -1,9 +1,9 @@
 -- `journal::read::distance_reads` meets its contract.
-use native.Mathlib.Omega.{arith}
 use borrow.Author.Rules.{rules}
+use native.Mathlib.Omega.{arith}
 use Rattle.journal.proofs.Tests.{distance-at-test}
 use Rattle.journal.proofs.read.distance_reads.Goals as goal
 
 pub returns : goal.returns
 returns c = let s = c.args in
-    rw (distance-at-test s.at s.words.now (λ k. omega (arith, c.shared_slice_known-1.given k)) (omega arith), ← c.float_at.ensures) c.distance_ok.ensures
+    rw (distance-at-test s.at s.words.now (search rules) (omega arith), ← c.float_at.ensures) c.distance_ok.ensures

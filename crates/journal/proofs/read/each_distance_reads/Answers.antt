@@ -1,15 +1,7 @@
 -- `journal::read::each_distance_reads` meets its contract.
-use Prim.Native.Nat.{◌+◌, ◌*◌, ◌-◌, ◌≤◌}
 use native.Mathlib.Omega.{arith}
-use mathlib.Core.Bool.{true}
-use mathlib.Core.Path.{◌≡◌, sym, ◌∙◌}
-use borrow.Author.Tests.{not-true, not-false}
-use lib.ListN.{drop}
+use mathlib.Core.Path.{sym, ◌∙◌}
 use Rattle.lists.proofs.Loops.{every-none, every-turn, every-done, every-stop}
-use Rattle.lists.specs.Loops.{every_below}
-use Rattle.journal.specs.inner.Check.{well_read}
-use Rattle.journal.specs.Record.{float_words, read_distance}
-use Rattle.journal.specs.Ranges.{distance_ok}
 use Rattle.journal.proofs.read.each_distance_reads.Goals as goal
 
 pub loop-k-init : goal.loop-k-init
@@ -25,7 +17,7 @@ pub distance_reads-requires : goal.distance_reads-requires
 distance_reads-requires c = omega arith
 
 pub returns-then-not-distance_reads : goal.returns-then-not-distance_reads
-returns-then-not-distance_reads c = every-stop c.loop-k.k _ _ c.loop-k-test.true (sym c.distance_reads.ensures ∙ not-true _ c.if-not-distance_reads.true)
+returns-then-not-distance_reads c = every-stop c.loop-k.k _ _ c.loop-k-test.true (sym c.distance_reads.ensures ∙ c.if-not-distance_reads.true)
 
 pub overflow_add-k : goal.overflow_add-k
 overflow_add-k c = omega arith
@@ -34,7 +26,7 @@ pub loop-k-smaller : goal.loop-k-smaller
 loop-k-smaller c = omega arith
 
 pub loop-k-preserved : goal.loop-k-preserved
-loop-k-preserved c = (omega arith, every-turn _ _ c.loop-k.invariant.1 (sym c.distance_reads.ensures ∙ not-false _ c.if-not-distance_reads.false))
+loop-k-preserved c = (omega arith, every-turn _ _ c.loop-k.invariant.1 (sym c.distance_reads.ensures ∙ c.if-not-distance_reads.false))
 
 pub returns : goal.returns
 returns c = every-done _ _ _ c.loop-k.invariant.1 (omega arith)

@@ -1,11 +1,8 @@
 -- What the loop of `journal::read::each_distance_reads` keeps.
 use Prim.Native.Nat.{◌+◌, ◌*◌, ◌-◌, ◌≤◌}
-use native.Mathlib.Omega.{arith}
 use mathlib.Core.Bool.{true}
-use mathlib.Core.Path.{◌≡◌, sym, ◌∙◌}
-use borrow.Author.Tests.{not-true, not-false}
+use mathlib.Core.Path.{◌≡◌}
 use lib.ListN.{drop}
-use Rattle.lists.proofs.Loops.{every-none, every-turn, every-done, every-stop}
 use Rattle.lists.specs.Loops.{every_below}
 use Rattle.journal.specs.inner.Check.{well_read}
 use Rattle.journal.specs.Record.{float_words, read_distance}

@@ -1,6 +1,5 @@
 -- `journal::read::minute_of` meets its contract.
 use mathlib.Core.Path.{sym}
-use borrow.Author.Rules.{rules}
 use Rattle.journal.proofs.RecordRead.{row-minute}
 use Rattle.journal.proofs.read.minute_of.Goals as goal
 

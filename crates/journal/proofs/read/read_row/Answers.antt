@@ -4,8 +4,7 @@ use native.Mathlib.Omega.{arith}
 use mathlib.Core.Bool.{true, false}
 use mathlib.Core.Path.{refl, sym, ◌∙◌}
 use lib.ListN.{get_or}
-use borrow.Author.Tests.{eq-eqb, ne_eqb, le-leb, lt-leb, not-true, not-false}
-use borrow.Author.Rules.{rules}
+use borrow.Author.Tests.{eq-eqb, ne_eqb, le-leb, lt-leb}
 use Rattle.journal.specs.Record.{record_length}
 use Rattle.journal.proofs.Reading.{before_small}
 use Rattle.journal.proofs.RecordRead.{row-minute, record-none, record-by}
@@ -49,7 +48,7 @@ returns-then-words-length c = let s = c.args in
 pub returns-then-not-body_reads : goal.returns-then-not-body_reads
 returns-then-not-body_reads c = let s = c.args in
     record-by s.place s.since s.q s.row s.words.now true true true true false (omega arith) (eq-eqb _ _ c.if-head-ne262144.false) (le-leb _ _ c.if-c-gt16.false) (eq-eqb _ _ (c.if-p-before_of.false ∙ c.before_of.ensures)) (le-leb _ _ (rw c.length_in-length.ensures.fact_1 at c.if-words-length.false))
-    (sym c.body_reads.ensures ∙ not-true _ c.if-not-body_reads.true)
+    (sym c.body_reads.ensures ∙ c.if-not-body_reads.true)
 
 pub scores_read-scores-requires : goal.scores_read-scores-requires
 unfolding record_length
@@ -63,4 +62,4 @@ pub returns : goal.returns
 returns c = let s = c.args in
     rw (c.minute_of.ensures, row-minute s.words.now, c.scores_read-scores.ensures, c.length_in-length.ensures.fact_1)
     (record-by s.place s.since s.q s.row s.words.now true true true true true (omega arith) (eq-eqb _ _ c.if-head-ne262144.false) (le-leb _ _ c.if-c-gt16.false) (eq-eqb _ _ (c.if-p-before_of.false ∙ c.before_of.ensures)) (le-leb _ _ (rw c.length_in-length.ensures.fact_1 at c.if-words-length.false))
-    (sym c.body_reads.ensures ∙ not-false _ c.if-not-body_reads.false))
+    (sym c.body_reads.ensures ∙ c.if-not-body_reads.false))

@@ -1,12 +1,7 @@
 -- `journal::read::scores_read` meets its contract.
-use Prim.Native.Nat.{◌+◌, ◌*◌, ◌-◌, ◌≤◌}
 use native.Mathlib.Omega.{arith}
-use mathlib.Core.Bool.{false}
-use mathlib.Core.Path.{◌≡◌, sym, ◌∙◌}
-use lib.Ieee.Scale.{finite}
+use mathlib.Core.Path.{sym, ◌∙◌}
 use Rattle.lists.proofs.Loops.{any_none, any-turn, any-done, any-stop}
-use Rattle.lists.specs.Loops.{any_below}
-use Rattle.journal.specs.Record.{first_cell, float_at}
 use Rattle.journal.proofs.read.scores_read.Goals as goal
 
 pub loop-k-init : goal.loop-k-init

@@ -1,10 +1,8 @@
 -- What the loop of `journal::read::scores_read` keeps.
 use Prim.Native.Nat.{◌+◌, ◌*◌, ◌-◌, ◌≤◌}
-use native.Mathlib.Omega.{arith}
 use mathlib.Core.Bool.{false}
-use mathlib.Core.Path.{◌≡◌, sym, ◌∙◌}
+use mathlib.Core.Path.{◌≡◌}
 use lib.Ieee.Scale.{finite}
-use Rattle.lists.proofs.Loops.{any_none, any-turn, any-done, any-stop}
 use Rattle.lists.specs.Loops.{any_below}
 use Rattle.journal.specs.Record.{first_cell, float_at}
 use Rattle.journal.proofs.read.scores_read.Given as goal

@@ -1,6 +1,5 @@
 -- `journal::record::add_row` meets its contract.
 use native.Mathlib.Omega.{arith}
-use borrow.Author.Rules.{rules}
 use Rattle.journal.specs.inner.Row.{row_of}
 use Rattle.journal.specs.inner.Fix.{fix_in}
 use Rattle.journal.specs.Record.{record_of}

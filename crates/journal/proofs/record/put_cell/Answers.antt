@@ -35,19 +35,19 @@ pub overflow_add-at-2 : goal.overflow_add-at-2
 overflow_add-at-2 c = omega arith
 
 pub put_float-requires-2 : goal.put_float-requires-2
-put_float-requires-2 c = let k1 = c.put_float.auto.0 in
+put_float-requires-2 c = let k1 = c.put_float.auto.words in
     simp (k1, length-set) (omega arith)
 
 pub overflow_add-at-3 : goal.overflow_add-at-3
 overflow_add-at-3 c = omega arith
 
 pub put_float-requires-3 : goal.put_float-requires-3
-put_float-requires-3 c = let k2 = c.put_float-2.auto.0 in
-    let k1 = c.put_float.auto.0 in
+put_float-requires-3 c = let k2 = c.put_float-2.auto.words in
+    let k1 = c.put_float.auto.words in
     simp (k2, k1, length-set) (omega arith)
 
 pub shape_of-words : goal.shape_of-words
-shape_of-words c = simp (c.put_float-3.auto.0, c.put_float-2.auto.0, c.put_float.auto.0, length-set)
+shape_of-words c = simp (c.put_float-3.auto.words, c.put_float-2.auto.words, c.put_float.auto.words, length-set)
 
 pub returns : goal.returns
 returns c = simp (c.put_float-3.ensures, c.put_float-2.ensures, c.put_float.ensures, towards_suc)

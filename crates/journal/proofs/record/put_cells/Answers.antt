@@ -1,13 +1,10 @@
 -- `journal::record::put_cells` meets its contract.
-use Prim.Native.Nat.{◌-◌, ◌≤◌}
 use native.Mathlib.Omega.{arith}
 use mathlib.Core.Path.{◌≡◌, refl, ◌∙◌}
-use lib.Seq.{sets, take-length}
-use lib.ListN.{length, take}
-use Rattle.journal.specs.Record.{first_cell, cell_words}
+use lib.Seq.{take-length}
+use lib.ListN.{length}
 use Rattle.journal.specs.inner.Row.{cells_of}
 use Rattle.journal.specs.inner.Fix.{candidates_in}
-use Rattle.journal.specs.Lists.{flat}
 use Rattle.journal.proofs.Gathered.{count-in}
 use Rattle.journal.proofs.Stores.{cells-many, cell-narrow, cells-turn}
 use Rattle.journal.proofs.record.put_cells.Goals as goal
@@ -58,7 +55,7 @@ pub loop-k-preserved : goal.loop-k-preserved
 loop-k-preserved c = let a = c.args in
     let loop = c.loop-k in
     let l = c.loop-k-test.true in
-    (loop.invariant.0, omega (arith, l), c.put_cell.auto.0 ∙ loop.invariant.2, cells-turn _ a.parents.now a.scores.now a.words.now loop.words _ loop.k (omega (arith, l, count-in _ c.requires.entries16)) c.own_candidate-c.ensures loop.invariant.3 c.put_cell.ensures)
+    (loop.invariant.0, omega (arith, l), c.put_cell.auto.words ∙ loop.invariant.2, cells-turn _ a.parents.now a.scores.now a.words.now loop.words _ loop.k (omega (arith, l, count-in _ c.requires.entries16)) c.own_candidate-c.ensures loop.invariant.3 c.put_cell.ensures)
 
 pub shape_of-words : goal.shape_of-words
 shape_of-words c = c.loop-k.invariant.2

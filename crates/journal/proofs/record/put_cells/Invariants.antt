@@ -1,15 +1,12 @@
 -- What the loop of `journal::record::put_cells` keeps.
 use Prim.Native.Nat.{◌-◌, ◌≤◌}
-use native.Mathlib.Omega.{arith}
-use mathlib.Core.Path.{◌≡◌, refl, ◌∙◌}
-use lib.Seq.{sets, take-length}
+use mathlib.Core.Path.{◌≡◌}
+use lib.Seq.{sets}
 use lib.ListN.{length, take}
 use Rattle.journal.specs.Record.{first_cell, cell_words}
 use Rattle.journal.specs.inner.Row.{cells_of}
 use Rattle.journal.specs.inner.Fix.{candidates_in}
 use Rattle.journal.specs.Lists.{flat}
-use Rattle.journal.proofs.Gathered.{count-in}
-use Rattle.journal.proofs.Stores.{cells-many, cell-narrow, cells-turn}
 use Rattle.journal.proofs.record.put_cells.Given as goal
 
 abbrev pub invariant-loop-k : goal.invariant-loop-k

@@ -1,13 +1,11 @@
 -- `journal::record::put_distances` meets its contract.
-use Prim.Native.Nat.{◌+◌, ◌-◌, ◌≤◌}
 use native.Mathlib.Numerals.{add-one}
 use native.Mathlib.Omega.{arith}
 use mathlib.Core.Path.{◌≡◌, refl, ◌∙◌}
 use lib.Ieee.{nan}
-use lib.Seq.{sets, take-length}
-use lib.ListN.{length, take, length-set}
+use lib.Seq.{take-length}
+use lib.ListN.{length, length-set}
 use Rattle.journal.specs.Record.{float_words}
-use Rattle.journal.specs.Lists.{flat}
 use Rattle.journal.proofs.Stores.{stored-turn}
 use Rattle.journal.proofs.record.put_distances.Goals as goal
 
@@ -54,7 +52,7 @@ pub loop-k-preserved : goal.loop-k-preserved
 loop-k-preserved c = let i = c.loop-k in
     let ds = c.args.distances.now in (
       omega arith,
-      c.put_float.auto.0 ∙ i.invariant.1,
+      c.put_float.auto.words ∙ i.invariant.1,
       c.put_float.ensures ∙ rw i.invariant.2 (stored-turn _ _ 2 i.k float_words ds nan (λ x. refl) (omega arith)),
     )
 

@@ -1,14 +1,10 @@
 -- What the loop of `journal::record::put_distances` keeps.
 use Prim.Native.Nat.{◌+◌, ◌-◌, ◌≤◌}
-use native.Mathlib.Numerals.{add-one}
-use native.Mathlib.Omega.{arith}
-use mathlib.Core.Path.{◌≡◌, refl, ◌∙◌}
-use lib.Ieee.{nan}
-use lib.Seq.{sets, take-length}
-use lib.ListN.{length, take, length-set}
+use mathlib.Core.Path.{◌≡◌}
+use lib.Seq.{sets}
+use lib.ListN.{length, take}
 use Rattle.journal.specs.Record.{float_words}
 use Rattle.journal.specs.Lists.{flat}
-use Rattle.journal.proofs.Stores.{stored-turn}
 use Rattle.journal.proofs.record.put_distances.Given as goal
 
 abbrev pub invariant-loop-k : goal.invariant-loop-k

@@ -4,25 +4,27 @@ use native.Mathlib.Nat.{mul-le-mul}
 use native.Mathlib.Omega.{arith}
 use mathlib.Core.Path.{◌≡◌, sym, ◌∙◌}
 use lib.ListN.{length, length-set}
-use Rattle.journal.specs.Row.{Row, row_size}
-use Rattle.journal.specs.inner.Row.{row_of}
-use Rattle.journal.specs.inner.Fix.{fix_in}
+use Rattle.std.specs.Prelude.{ℕ, List, Float}
+use Rattle.journal.specs.inner.Row.{cells_of, row_of, RowWritable}
+use Rattle.journal.specs.inner.Fix.{candidates_in, fix_in, Entries16}
+use Rattle.journal.specs.declared.fix.Candidates.{Candidates}
 use Rattle.journal.specs.Record.{record_length, record_of}
 use Rattle.journal.proofs.Gathered.{count-in}
 use Rattle.journal.proofs.Stores.{cells-many, row-stored, row-length}
 use Rattle.journal.proofs.record.put_row.Goals as goal
 
-abbrev row : tie.Start → Row
-row s = row_of (fix_in s.args.fix s.args.distances.now) s.args.parents.now s.args.scores.now s.args.p
+-- a row whose cells are those of a fix has as many of them, and its record is as long as their number tells
+many : (fix : Candidates) → Entries16 fix → (ps : List ℕ) (ss : List Float) → length (cells_of (candidates_in fix) ps ss) ≡ fix.count
+many fix e ps ss = cells-many (candidates_in fix) ps ss ∙ count-in fix e
 
-many : (s : tie.Start) → row_size (row s) ≡ s.args.fix.count
-many s = cells-many _ s.args.parents.now s.args.scores.now ∙ count-in _ s.requires.0.0
+number : (fix : Candidates) (ds : List Float) (ps : List ℕ) (ss : List Float) (p : ℕ) → Entries16 fix × RowWritable (row_of (fix_in fix ds) ps ss p)
+    → length ds ≡ fix.count * p
+number fix ds ps ss p e = rw (← many fix e.0 ps ss) e.1.number
 
-number : (s : tie.Start) → length s.args.distances.now ≡ s.args.fix.count * s.args.p
-number s = rw (← many s) s.requires.0.1.number
-
-long : (s : tie.Start) → length (record_of s.args.place (row s)) ≡ record_length s.args.fix.count s.args.p
-long s = row-length s.args.place (row s) _ s.requires.0.1.number (many s)
+long : (place : ℕ) (fix : Candidates) (ds : List Float) (ps : List ℕ) (ss : List Float) (p : ℕ)
+    → Entries16 fix × RowWritable (row_of (fix_in fix ds) ps ss p)
+    → length (record_of place (row_of (fix_in fix ds) ps ss p)) ≡ record_length fix.count p
+long place fix ds ps ss p e = row-length place (row_of (fix_in fix ds) ps ss p) _ e.1.number (many fix e.0 ps ss)
 
 pub record_length-length-requires : goal.record_length-length-requires
 record_length-length-requires c = (omega (arith, c.requires.entries16.0.few), omega (arith, c.requires.entries16.1.before))
@@ -44,7 +46,7 @@ overflow_add-words-2 c = omega arith
 
 pub bounds-words-0 : goal.bounds-words-0
 unfolding record_length
-bounds-words-0 c = let s = c in omega (arith, long s, c.requires.row_in_bounds.0)
+bounds-words-0 c = omega (arith, long c.args.place c.args.fix c.args.distances.now c.args.parents.now c.args.scores.now c.args.p c.requires.entries16, c.requires.row_in_bounds.0)
 
 pub overflow_cast-words-3 : goal.overflow_cast-words-3
 overflow_cast-words-3 c = omega arith
@@ -54,23 +56,22 @@ overflow_add-words-3 c = omega arith
 
 pub bounds-words-1 : goal.bounds-words-1
 unfolding record_length
-bounds-words-1 c = let s = c in simp length-set (omega (arith, long s, c.requires.row_in_bounds.0))
+bounds-words-1 c = simp length-set (omega (arith, long c.args.place c.args.fix c.args.distances.now c.args.parents.now c.args.scores.now c.args.p c.requires.entries16, c.requires.row_in_bounds.0))
 
 pub overflow_add-words-4 : goal.overflow_add-words-4
 overflow_add-words-4 c = omega (arith, c.requires.entries16.1.minute)
 
 pub bounds-words-2 : goal.bounds-words-2
 unfolding record_length
-bounds-words-2 c = let s = c in simp length-set (omega (arith, long s, c.requires.row_in_bounds.0))
+bounds-words-2 c = simp length-set (omega (arith, long c.args.place c.args.fix c.args.distances.now c.args.parents.now c.args.scores.now c.args.p c.requires.entries16, c.requires.row_in_bounds.0))
 
 pub put_cells-requires : goal.put_cells-requires
 unfolding record_length
 put_cells-requires c =
-    let s = c in
     record {
       entries16 = c.requires.entries16.0;
       by_index = c.requires.entries16.1.cell;
-      cells_in_bounds = simp length-set (omega (arith, long s, many s, c.requires.row_in_bounds.0));
+      cells_in_bounds = simp length-set (omega (arith, long c.args.place c.args.fix c.args.distances.now c.args.parents.now c.args.scores.now c.args.p c.requires.entries16, many c.args.fix c.requires.entries16.0 c.args.parents.now c.args.scores.now, c.requires.row_in_bounds.0));
     }
 
 pub overflow_mul-n : goal.overflow_mul-n
@@ -82,11 +83,10 @@ overflow_add-n c = omega arith
 pub put_distances-requires : goal.put_distances-requires
 unfolding record_length
 put_distances-requires c =
-    let s = c in
     let product = mul-le-mul c.requires.entries16.0.few c.requires.entries16.1.before in
     record {
-      distances_in_bounds = omega (arith, number s, long s, c.requires.row_in_bounds.0, simp length-set at c.put_cells.auto.0);
-      distances_len_bound = omega (arith, number s, product);
+      distances_in_bounds = omega (arith, number c.args.fix c.args.distances.now c.args.parents.now c.args.scores.now c.args.p c.requires.entries16, long c.args.place c.args.fix c.args.distances.now c.args.parents.now c.args.scores.now c.args.p c.requires.entries16, c.requires.row_in_bounds.0, simp length-set at c.put_cells.auto.words);
+      distances_len_bound = omega (arith, number c.args.fix c.args.distances.now c.args.parents.now c.args.scores.now c.args.p c.requires.entries16, product);
     }
 
 pub overflow_cast-words-4 : goal.overflow_cast-words-4
@@ -104,17 +104,16 @@ offset_bounds-words-length c = omega arith
 
 pub bounds-words-length : goal.bounds-words-length
 unfolding record_length
-bounds-words-length c = let s = c in
-    omega (arith, c.record_length-length.ensures.0, long s, simp length-set at c.put_cells.auto.0, c.put_distances.auto.0, c.requires.row_in_bounds.0)
+bounds-words-length c =
+    omega (arith, c.record_length-length.ensures.0, long c.args.place c.args.fix c.args.distances.now c.args.parents.now c.args.scores.now c.args.p c.requires.entries16, simp length-set at c.put_cells.auto.words, c.put_distances.auto.words, c.requires.row_in_bounds.0)
 
 pub shape_of-words : goal.shape_of-words
-shape_of-words c = simp (length-set, c.put_distances.auto.0, c.put_cells.auto.0)
+shape_of-words c = simp (length-set, c.put_distances.auto.words, c.put_cells.auto.words)
 
 pub returns : goal.returns
 returns c =
-    let s = c in
     let length-is = c.record_length-length.ensures.0 in
     record {
-      fact_1 = length-is ∙ sym (long s);
-      fact_2 = row-stored c.args.words.now _ _ c.args.place (row s) c.requires.entries16.1.number _ (many s) _ length-is c.put_cells.ensures c.put_distances.ensures;
+      fact_1 = length-is ∙ sym (long c.args.place c.args.fix c.args.distances.now c.args.parents.now c.args.scores.now c.args.p c.requires.entries16);
+      fact_2 = row-stored c.args.words.now _ _ c.args.place _ c.requires.entries16.1.number _ (many c.args.fix c.requires.entries16.0 c.args.parents.now c.args.scores.now) _ length-is c.put_cells.ensures c.put_distances.ensures;
     }

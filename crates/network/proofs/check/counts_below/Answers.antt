@@ -1,11 +1,6 @@
 -- `network::check::counts_below` meets its contract.
-use mathlib.Core.Path.{◌≡◌, refl, sym}
-use Prim.Native.Nat.{◌≤◌, ◌-◌}
+use mathlib.Core.Path.{refl, sym}
 use native.Mathlib.Omega.{arith}
-use lib.ListN.{length, get_or}
-use lib.Dec.{leb}
-use borrow.Author.Rules.{rules}
-use Rattle.lists.specs.Loops.{every_below}
 use Rattle.lists.proofs.Loops.{every-none, every-kept, every-all-kept}
 use Rattle.network.proofs.check.counts_below.Goals as goal
 

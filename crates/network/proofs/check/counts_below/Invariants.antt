@@ -1,12 +1,9 @@
 -- What the loop of `network::check::counts_below` keeps.
-use mathlib.Core.Path.{◌≡◌, refl, sym}
+use mathlib.Core.Path.{◌≡◌}
 use Prim.Native.Nat.{◌≤◌, ◌-◌}
-use native.Mathlib.Omega.{arith}
 use lib.ListN.{length, get_or}
 use lib.Dec.{leb}
-use borrow.Author.Rules.{rules}
 use Rattle.lists.specs.Loops.{every_below}
-use Rattle.lists.proofs.Loops.{every-none, every-kept, every-all-kept}
 use Rattle.network.proofs.check.counts_below.Given as goal
 
 abbrev pub invariant-loop-k : goal.invariant-loop-k

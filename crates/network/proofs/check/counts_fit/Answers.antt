@@ -1,6 +1,5 @@
 -- `network::check::counts_fit` meets its contract.
 use borrow.Author.Tests.{le-leb, lt-leb, eq-eqb, ne_eqb}
-use borrow.Author.Rules.{rules}
 use Rattle.network.specs.Network.{counts_fit}
 use Rattle.network.proofs.check.counts_fit.Goals as goal
 

@@ -1,12 +1,6 @@
 -- `network::check::elements_differ` meets its contract.
-use mathlib.Core.Path.{◌≡◌, refl, sym}
-use mathlib.Core.Bool.{not}
-use Prim.Native.Nat.{◌≤◌, ◌-◌}
+use mathlib.Core.Path.{refl, sym}
 use native.Mathlib.Omega.{arith}
-use lib.ListN.{length, get_or}
-use lib.Dec.{eqb}
-use borrow.Author.Rules.{rules}
-use Rattle.lists.specs.Loops.{every_below}
 use Rattle.lists.proofs.Loops.{every-none, every-kept, every-all-kept}
 use Rattle.network.specs.Network.{elements_differ}
 use Rattle.network.proofs.check.elements_differ.Goals as goal

@@ -1,14 +1,10 @@
 -- What the loop of `network::check::elements_differ` keeps.
-use mathlib.Core.Path.{◌≡◌, refl, sym}
+use mathlib.Core.Path.{◌≡◌}
 use mathlib.Core.Bool.{not}
 use Prim.Native.Nat.{◌≤◌, ◌-◌}
-use native.Mathlib.Omega.{arith}
 use lib.ListN.{length, get_or}
 use lib.Dec.{eqb}
-use borrow.Author.Rules.{rules}
 use Rattle.lists.specs.Loops.{every_below}
-use Rattle.lists.proofs.Loops.{every-none, every-kept, every-all-kept}
-use Rattle.network.specs.Network.{elements_differ}
 use Rattle.network.proofs.check.elements_differ.Given as goal
 
 abbrev pub invariant-loop-k : goal.invariant-loop-k

@@ -1,6 +1,5 @@
 -- `network::check::heading_fits` meets its contract.
 use lib.Ieee.{of_bits}
-use borrow.Author.Rules.{rules}
 use Rattle.network.specs.Network.{heading_fits}
 use Rattle.network.proofs.check.heading_fits.Goals as goal
 

@@ -1,13 +1,10 @@
 -- What the loop of `network::check::headings_fit` keeps.
-use mathlib.Core.Path.{◌≡◌, refl, sym}
+use mathlib.Core.Path.{◌≡◌}
 use Prim.Native.Nat.{◌≤◌, ◌-◌}
-use native.Mathlib.Omega.{arith}
 use lib.ListN.{length, get_or}
 use lib.Ieee.{nan}
-use borrow.Author.Rules.{rules}
 use Rattle.lists.specs.Loops.{every_below}
-use Rattle.lists.proofs.Loops.{every-none, every-kept, every-all-kept}
-use Rattle.network.specs.Network.{heading_fits, headings_fit}
+use Rattle.network.specs.Network.{heading_fits}
 use Rattle.network.proofs.check.headings_fit.Given as goal
 
 abbrev pub invariant-loop-i : goal.invariant-loop-i

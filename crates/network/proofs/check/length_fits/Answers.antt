@@ -1,6 +1,5 @@
 -- `network::check::length_fits` meets its contract.
 use lib.Ieee.{of_bits}
-use borrow.Author.Rules.{rules}
 use Rattle.network.specs.Network.{length_fits}
 use Rattle.network.proofs.check.length_fits.Goals as goal
 

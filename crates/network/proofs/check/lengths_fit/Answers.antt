@@ -1,13 +1,8 @@
 -- `network::check::lengths_fit` meets its contract.
-use mathlib.Core.Path.{◌≡◌, refl, sym}
-use Prim.Native.Nat.{◌≤◌, ◌-◌}
+use mathlib.Core.Path.{refl, sym}
 use native.Mathlib.Omega.{arith}
-use lib.ListN.{length, get_or}
-use lib.Ieee.{nan}
-use borrow.Author.Rules.{rules}
-use Rattle.lists.specs.Loops.{every_below}
 use Rattle.lists.proofs.Loops.{every-none, every-kept, every-all-kept}
-use Rattle.network.specs.Network.{length_fits, lengths_fit}
+use Rattle.network.specs.Network.{lengths_fit}
 use Rattle.network.proofs.check.lengths_fit.Goals as goal
 
 pub loop-i-init : goal.loop-i-init

@@ -1,11 +1,6 @@
 -- `network::check::relation_rises` meets its contract.
-use mathlib.Core.Path.{◌≡◌, refl, sym}
-use Prim.Native.Nat.{◌+◌, ◌*◌, ◌≤◌, ◌-◌}
+use mathlib.Core.Path.{refl, sym}
 use native.Mathlib.Omega.{arith}
-use lib.ListN.{get_or}
-use lib.Dec.{ltb}
-use borrow.Author.Rules.{rules}
-use Rattle.lists.specs.Loops.{every_below}
 use Rattle.lists.proofs.Loops.{every-none, every-kept, every-all-kept}
 use Rattle.network.proofs.check.relation_rises.Goals as goal
 

@@ -1,12 +1,9 @@
 -- What the loop of `network::check::relation_rises` keeps.
-use mathlib.Core.Path.{◌≡◌, refl, sym}
+use mathlib.Core.Path.{◌≡◌}
 use Prim.Native.Nat.{◌+◌, ◌*◌, ◌≤◌, ◌-◌}
-use native.Mathlib.Omega.{arith}
 use lib.ListN.{get_or}
 use lib.Dec.{ltb}
-use borrow.Author.Rules.{rules}
 use Rattle.lists.specs.Loops.{every_below}
-use Rattle.lists.proofs.Loops.{every-none, every-kept, every-all-kept}
 use Rattle.network.proofs.check.relation_rises.Given as goal
 
 abbrev pub invariant-loop-i : goal.invariant-loop-i

@@ -1,14 +1,10 @@
 -- What the loop of `network::check::sides_fit` keeps.
-use mathlib.Core.Path.{◌≡◌, refl, sym}
+use mathlib.Core.Path.{◌≡◌}
 use mathlib.Core.Bool.{◌&&◌}
 use Prim.Native.Nat.{◌≤◌, ◌-◌}
-use native.Mathlib.Omega.{arith}
 use lib.ListN.{length, get_or}
 use lib.Dec.{leb}
-use borrow.Author.Rules.{rules}
 use Rattle.lists.specs.Loops.{every_below}
-use Rattle.lists.proofs.Loops.{every-none, every-kept, every-all-kept}
-use Rattle.network.specs.Network.{sides_fit}
 use Rattle.network.proofs.check.sides_fit.Given as goal
 
 abbrev pub invariant-loop-k : goal.invariant-loop-k

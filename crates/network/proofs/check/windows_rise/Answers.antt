@@ -1,13 +1,8 @@
 -- `network::check::windows_rise` meets its contract.
-use mathlib.Core.Path.{◌≡◌, refl, sym}
-use Prim.Native.Nat.{◌≤◌, ◌-◌}
+use mathlib.Core.Path.{refl, sym}
 use native.Mathlib.Omega.{arith}
-use lib.ListN.{length}
-use lib.Dec.{ltb}
-use borrow.Author.Rules.{rules}
-use Rattle.lists.specs.Loops.{every_below}
 use Rattle.lists.proofs.Loops.{every-none, every-kept, every-all-kept}
-use Rattle.network.specs.Network.{windows_of, window_count, first_minute, last_minute, windows_rise}
+use Rattle.network.specs.Network.{windows_rise}
 use Rattle.network.proofs.check.windows_rise.Goals as goal
 
 pub loop-k-init : goal.loop-k-init

@@ -1,13 +1,10 @@
 -- What the loop of `network::check::windows_rise` keeps.
-use mathlib.Core.Path.{◌≡◌, refl, sym}
+use mathlib.Core.Path.{◌≡◌}
 use Prim.Native.Nat.{◌≤◌, ◌-◌}
-use native.Mathlib.Omega.{arith}
 use lib.ListN.{length}
 use lib.Dec.{ltb}
-use borrow.Author.Rules.{rules}
 use Rattle.lists.specs.Loops.{every_below}
-use Rattle.lists.proofs.Loops.{every-none, every-kept, every-all-kept}
-use Rattle.network.specs.Network.{windows_of, window_count, first_minute, last_minute, windows_rise}
+use Rattle.network.specs.Network.{windows_of, window_count, first_minute, last_minute}
 use Rattle.network.proofs.check.windows_rise.Given as goal
 
 abbrev pub invariant-loop-k : goal.invariant-loop-k

@@ -1,7 +1,5 @@
 -- `network::compile::add_link` meets its contract.
-use borrow.Author.Rules.{rules}
 use native.Mathlib.Omega.{arith}
-use mathlib.Core.Path.{refl}
 use Rattle.network.proofs.compile.add_link.Goals as goal
 
 pub offset_bounds-heads-v : goal.offset_bounds-heads-v
@@ -18,10 +16,3 @@ offset_bounds-heads-v-then-l c = omega (arith, c.requires.from_bound c.if-l.true
 
 pub bounds-heads-v-then-l : goal.bounds-heads-v-then-l
 bounds-heads-v-then-l c = omega (arith, c.requires.from_bound c.if-l.true)
-
-pub returns-then-l : goal.returns-then-l
-returns-then-l c =
-    record {
-      heads_after = rw (c.if-l.true, c.entry_of.ensures) (refl);
-      links_after = rw (c.if-l.true, c.entry_of.ensures) (refl);
-    }

@@ -1,5 +1,4 @@
 -- `network::compile::compile_checked` meets its contract.
-use borrow.Author.Rules.{rules}
 use mathlib.Core.Path.{refl, sym, ◌∙◌}
 use Rattle.network.proofs.Accepted.{accepted-counts, accepted-relations, accepted-windows, refused-not-accepted}
 use Rattle.network.proofs.compile.compile_checked.Goals as goal

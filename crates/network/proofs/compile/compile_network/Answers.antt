@@ -2,12 +2,10 @@
 use mathlib.Core.Path.{ap}
 use mathlib.Core.List.{List}
 use native.Mathlib.Omega.{arith}
-use Prim.Native.Nat.{ℕ, ◌≤◌}
-use lib.ListN.{length}
-use Rattle.network.specs.Network.{relations_of, windows_of}
+use Prim.Native.Nat.{ℕ}
 use Rattle.network.specs.Graph.{relations_at}
 use Rattle.network.proofs.Minutes.{relations-at-fit}
-use Rattle.network.proofs.Compiling.{Added, added_none, added-all, behind-fits, ahead-fits, added-behind, added-ahead}
+use Rattle.network.proofs.Compiling.{added_none, added-all, behind-fits, ahead-fits, added-behind, added-ahead}
 use Rattle.network.proofs.compile.compile_network.Goals as goal
 
 pub loop-k-init : goal.loop-k-init

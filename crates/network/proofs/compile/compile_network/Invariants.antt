@@ -1,13 +1,9 @@
 -- What the loop of `network::compile::compile_network` keeps.
-use mathlib.Core.Path.{ap}
-use mathlib.Core.List.{List}
-use native.Mathlib.Omega.{arith}
-use Prim.Native.Nat.{ℕ, ◌≤◌}
+use Prim.Native.Nat.{◌≤◌}
 use lib.ListN.{length}
 use Rattle.network.specs.Network.{relations_of, windows_of}
 use Rattle.network.specs.Graph.{relations_at}
-use Rattle.network.proofs.Minutes.{relations-at-fit}
-use Rattle.network.proofs.Compiling.{Added, added_none, added-all, behind-fits, ahead-fits, added-behind, added-ahead}
+use Rattle.network.proofs.Compiling.{Added}
 use Rattle.network.proofs.compile.compile_network.Given as goal
 
 abbrev pub invariant-loop-k : goal.invariant-loop-k

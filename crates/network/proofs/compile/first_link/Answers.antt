@@ -1,5 +1,4 @@
 -- `network::compile::first_link` meets its contract.
-use borrow.Author.Rules.{rules}
 use borrow.Author.Tests.{lt-ltb, le-ltb}
 use Rattle.network.specs.inner.Compiled.{first_link}
 use Rattle.network.proofs.compile.first_link.Goals as goal

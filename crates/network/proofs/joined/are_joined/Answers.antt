@@ -1,14 +1,8 @@
 -- `network::joined::are_joined` meets its contract.
-use mathlib.Core.Path.{◌≡◌, refl, sym, ◌∙◌}
-use mathlib.Core.Bool.{false}
-use Prim.Native.Nat.{◌≤◌, ◌-◌}
+use mathlib.Core.Path.{refl, sym, ◌∙◌}
 use native.Mathlib.Omega.{arith}
-use lib.ListN.{length}
-use Rattle.lists.specs.Loops.{any_below}
 use Rattle.lists.proofs.Loops.{any_none, any-turn, any-done, any-stop}
-use Rattle.network.specs.Network.{relations_of, windows_of}
-use Rattle.network.specs.Graph.{relation_at, relations_at}
-use Rattle.network.specs.inner.Nodes.{relation_leads}
+use Rattle.network.specs.Graph.{relations_at}
 use Rattle.network.proofs.Joining.{joined-relations}
 use Rattle.network.proofs.joined.are_joined.Goals as goal
 

@@ -1,15 +1,12 @@
 -- What the loop of `network::joined::are_joined` keeps.
-use mathlib.Core.Path.{◌≡◌, refl, sym, ◌∙◌}
+use mathlib.Core.Path.{◌≡◌}
 use mathlib.Core.Bool.{false}
 use Prim.Native.Nat.{◌≤◌, ◌-◌}
-use native.Mathlib.Omega.{arith}
 use lib.ListN.{length}
 use Rattle.lists.specs.Loops.{any_below}
-use Rattle.lists.proofs.Loops.{any_none, any-turn, any-done, any-stop}
 use Rattle.network.specs.Network.{relations_of, windows_of}
 use Rattle.network.specs.Graph.{relation_at, relations_at}
 use Rattle.network.specs.inner.Nodes.{relation_leads}
-use Rattle.network.proofs.Joining.{joined-relations}
 use Rattle.network.proofs.joined.are_joined.Given as goal
 
 abbrev pub invariant-loop-k : goal.invariant-loop-k

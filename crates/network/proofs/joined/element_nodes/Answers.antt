@@ -1,5 +1,4 @@
 -- `network::joined::element_nodes` meets its contract.
-use borrow.Author.Rules.{rules}
 use Rattle.network.proofs.joined.element_nodes.Goals as goal
 
 pub returns : goal.returns

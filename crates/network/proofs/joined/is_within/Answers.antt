@@ -1,6 +1,5 @@
 -- `network::joined::is_within` meets its contract.
 use Rattle.network.specs.inner.Nodes.{within}
-use borrow.Author.Rules.{rules}
 use Rattle.network.proofs.joined.is_within.Goals as goal
 
 pub returns : goal.returns

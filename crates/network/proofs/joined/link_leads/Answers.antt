@@ -1,6 +1,5 @@
 -- `network::joined::link_leads` meets its contract.
 use Rattle.network.specs.inner.Nodes.{link_leads}
-use borrow.Author.Rules.{rules}
 use Rattle.network.proofs.joined.link_leads.Goals as goal
 
 pub returns-then-is_within : goal.returns-then-is_within

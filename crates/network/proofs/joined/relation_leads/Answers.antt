@@ -1,6 +1,5 @@
 -- `network::joined::relation_leads` meets its contract.
 use Rattle.network.specs.inner.Nodes.{relation_leads}
-use borrow.Author.Rules.{rules}
 use Rattle.network.proofs.joined.relation_leads.Goals as goal
 
 pub returns-then-link_leads : goal.returns-then-link_leads

@@ -1,5 +1,4 @@
 -- `network::joined::side_nodes` meets its contract.
-use borrow.Author.Rules.{rules}
 use Rattle.network.proofs.joined.side_nodes.Goals as goal
 
 pub returns : goal.returns

@@ -1,6 +1,5 @@
 -- `network::link::is_navigable` meets its contract.
 use mathlib.Core.Path.{sym, ◌∙◌}
-use borrow.Author.Rules.{rules}
 use Rattle.network.specs.Graph.{navigable}
 use Rattle.network.proofs.link.is_navigable.Goals as goal
 

@@ -1,12 +1,6 @@
 -- `network::link::is_shut` meets its contract.
-use mathlib.Core.Path.{◌≡◌, refl, sym, ◌∙◌}
-use mathlib.Core.Bool.{false, ◌&&◌}
-use Prim.Native.Nat.{◌+◌, ◌*◌, ◌≤◌, ◌-◌}
+use mathlib.Core.Path.{refl, sym, ◌∙◌}
 use native.Mathlib.Omega.{arith}
-use lib.ListN.{get_or}
-use lib.Dec.{leb, ltb}
-use borrow.Author.Rules.{rules}
-use Rattle.lists.specs.Loops.{any_below}
 use Rattle.lists.proofs.Loops.{any_none, any-turn, any-done, any-stop}
 use Rattle.network.specs.Graph.{is_shut}
 use Rattle.network.proofs.Shut.{open-past}

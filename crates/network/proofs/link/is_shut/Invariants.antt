@@ -1,15 +1,10 @@
 -- What the loop of `network::link::is_shut` keeps.
-use mathlib.Core.Path.{◌≡◌, refl, sym, ◌∙◌}
+use mathlib.Core.Path.{◌≡◌}
 use mathlib.Core.Bool.{false, ◌&&◌}
 use Prim.Native.Nat.{◌+◌, ◌*◌, ◌≤◌, ◌-◌}
-use native.Mathlib.Omega.{arith}
 use lib.ListN.{get_or}
 use lib.Dec.{leb, ltb}
-use borrow.Author.Rules.{rules}
 use Rattle.lists.specs.Loops.{any_below}
-use Rattle.lists.proofs.Loops.{any_none, any-turn, any-done, any-stop}
-use Rattle.network.specs.Graph.{is_shut}
-use Rattle.network.proofs.Shut.{open-past}
 use Rattle.network.proofs.link.is_shut.Given as goal
 
 abbrev pub invariant-loop-i : goal.invariant-loop-i

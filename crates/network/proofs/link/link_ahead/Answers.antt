@@ -1,5 +1,4 @@
 -- `network::link::link_ahead` meets its contract.
-use borrow.Author.Rules.{rules}
 use Rattle.network.specs.Graph.{ahead}
 use Rattle.network.proofs.link.link_ahead.Goals as goal
 

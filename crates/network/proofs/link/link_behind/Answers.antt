@@ -1,5 +1,4 @@
 -- `network::link::link_behind` meets its contract.
-use borrow.Author.Rules.{rules}
 use Rattle.network.specs.Graph.{behind}
 use Rattle.network.proofs.link.link_behind.Goals as goal
 

@@ -1,6 +1,5 @@
 -- `network::link::node_of` meets its contract.
 use mathlib.Core.Path.{refl}
-use borrow.Author.Rules.{rules}
 use Rattle.network.specs.Graph.{node}
 use Rattle.network.proofs.link.node_of.Goals as goal
 

@@ -1,6 +1,5 @@
 -- `network::link::relation_at` meets its contract.
 use native.Mathlib.Omega.{arith}
-use borrow.Author.Rules.{rules}
 use Rattle.network.specs.Graph.{flag_at}
 use Rattle.network.proofs.Minutes.{relation-at-minute}
 use Rattle.network.proofs.link.relation_at.Goals as goal

@@ -1,7 +1,6 @@
 -- `network::triple::is_passed` meets its contract.
 use Rattle.network.specs.Triple.{passed}
 use Rattle.network.proofs.Joining.{joined-entered, joined-departed}
-use borrow.Author.Rules.{rules}
 use Rattle.network.proofs.triple.is_passed.Goals as goal
 
 pub returns-then-are_joined : goal.returns-then-are_joined

@@ -3,7 +3,6 @@ use mathlib.Core.Path.{sym, ap, ◌∙◌}
 use Rattle.network.specs.Triple.{consistency_of}
 use Rattle.network.proofs.Accepted.{accepted-relations, accepted-windows}
 use Rattle.network.proofs.Consistent.{consistency-accepted, consistency-refused}
-use borrow.Author.Rules.{rules}
 use Rattle.network.proofs.triple.triple_is_consistent.Goals as goal
 
 pub is_consistent-requires : goal.is_consistent-requires

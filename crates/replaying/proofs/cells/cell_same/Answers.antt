@@ -1,5 +1,4 @@
 -- `replaying::cells::cell_same` meets its contract.
-use borrow.Author.Rules.{rules}
 use borrow.Author.Tests.{eq-eqb, ne_eqb}
 use Rattle.replaying.specs.inner.Comparing.{same_cell}
 use Rattle.replaying.proofs.cells.cell_same.Goals as goal

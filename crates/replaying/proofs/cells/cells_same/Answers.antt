@@ -1,17 +1,8 @@
 -- `replaying::cells::cells_same` meets its contract.
-use mathlib.Core.Path.{◌≡◌, sym, ◌∙◌}
-use mathlib.Core.Bool.{true}
-use Prim.Native.Nat.{◌≤◌, ◌-◌}
+use mathlib.Core.Path.{sym, ◌∙◌}
 use native.Mathlib.Omega.{arith}
-use lib.ListN.{get_or}
-use lib.Ieee.{nan}
-use borrow.Author.Tests.{not-true, not-false}
-use Rattle.lists.specs.Loops.{every_below}
 use Rattle.lists.proofs.Loops.{every-none, every-turn, every-done, every-stop}
-use Rattle.journal.specs.Row.{cell_of}
-use Rattle.journal.specs.Record.{read_row}
 use Rattle.rows.proofs.Records.{stands_at}
-use Rattle.replaying.specs.inner.Comparing.{same_cell}
 use Rattle.replaying.proofs.cells.cells_same.Goals as goal
 
 pub loop-i-init : goal.loop-i-init
@@ -33,7 +24,7 @@ pub cell_same-requires : goal.cell_same-requires
 cell_same-requires c = stands_at _ _ _ c.requires.0 c.loop-i-test.true
 
 pub returns-then-not-cell_same : goal.returns-then-not-cell_same
-returns-then-not-cell_same c = every-stop _ _ _ c.loop-i-test.true (sym c.cell_same.ensures ∙ not-true _ c.if-not-cell_same.true)
+returns-then-not-cell_same c = every-stop _ _ _ c.loop-i-test.true (sym c.cell_same.ensures ∙ c.if-not-cell_same.true)
 
 pub overflow_step-i : goal.overflow_step-i
 overflow_step-i c = omega (arith, c.loop-i-test.true, c.requires.1)
@@ -42,7 +33,7 @@ pub loop-i-smaller : goal.loop-i-smaller
 loop-i-smaller c = omega (arith, c.loop-i-test.true, c.requires.1)
 
 pub loop-i-preserved : goal.loop-i-preserved
-loop-i-preserved c = (omega (arith, c.loop-i-test.true), every-turn _ _ c.loop-i.invariant.1 (sym c.cell_same.ensures ∙ not-false _ c.if-not-cell_same.false))
+loop-i-preserved c = (omega (arith, c.loop-i-test.true), every-turn _ _ c.loop-i.invariant.1 (sym c.cell_same.ensures ∙ c.if-not-cell_same.false))
 
 pub returns : goal.returns
 returns c = every-done _ _ _ c.loop-i.invariant.1 (omega arith)

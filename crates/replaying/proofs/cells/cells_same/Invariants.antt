@@ -1,16 +1,12 @@
 -- What the loop of `replaying::cells::cells_same` keeps.
-use mathlib.Core.Path.{◌≡◌, sym, ◌∙◌}
+use mathlib.Core.Path.{◌≡◌}
 use mathlib.Core.Bool.{true}
 use Prim.Native.Nat.{◌≤◌, ◌-◌}
-use native.Mathlib.Omega.{arith}
 use lib.ListN.{get_or}
 use lib.Ieee.{nan}
-use borrow.Author.Tests.{not-true, not-false}
 use Rattle.lists.specs.Loops.{every_below}
-use Rattle.lists.proofs.Loops.{every-none, every-turn, every-done, every-stop}
 use Rattle.journal.specs.Row.{cell_of}
 use Rattle.journal.specs.Record.{read_row}
-use Rattle.rows.proofs.Records.{stands_at}
 use Rattle.replaying.specs.inner.Comparing.{same_cell}
 use Rattle.replaying.proofs.cells.cells_same.Given as goal
 

@@ -1,7 +1,6 @@
 -- `replaying::compare::compare_minute` meets its contract.
 use native.Mathlib.Omega.{arith}
 use mathlib.Core.Path.{sym, subst}
-use borrow.Author.Rules.{rules}
 use Rattle.network.proofs.Accepted.{accepted-counts, accepted-relations, accepted-windows}
 use Rattle.transition.specs.Track.{Track}
 use Rattle.transition.specs.Step.{step_on}

@@ -1,13 +1,7 @@
 -- `replaying::compare::compare_rows` meets its contract.
-use Prim.Native.Nat.{◌-◌}
 use native.Mathlib.Omega.{arith}
 use mathlib.Core.Logic.{inl, inr}
 use borrow.Author.Tests.{not-true, not-false}
-use lib.ListN.{length}
-use Rattle.network.specs.Network.{network_of}
-use Rattle.transition.specs.Step.{transition}
-use Rattle.journal.specs.inner.Rows.{rows_in}
-use Rattle.replaying.specs.inner.Comparing.{Compared}
 use Rattle.replaying.proofs.Standing.{at_most}
 use Rattle.replaying.proofs.Stretches.{compared-start, compared-less}
 use Rattle.replaying.proofs.compare.compare_rows.Goals as goal

@@ -1,14 +1,9 @@
 -- `replaying::compare::compare_stretch` meets its contract.
-use Prim.Native.Nat.{◌-◌}
 use native.Mathlib.Omega.{arith}
 use mathlib.Core.Path.{refl, sym, ◌∙◌}
-use borrow.Author.Tests.{not-true, not-false}
 use Rattle.journal.specs.Record.{record_length}
-use Rattle.journal.specs.inner.Rows.{rows_in}
-use Rattle.transition.specs.Step.{step_on}
-use Rattle.transition.specs.inner.Track.{track_in}
 use Rattle.replaying.proofs.Standing.{few-rows, at_most, row-stands, at-inside, own-head, own-minute, counts-few, next-at, place-inside-words, records-stand, row-compared}
-use Rattle.replaying.proofs.Stretches.{Along, along-start, along-turn, along-same, along-differs, along-other, along-past}
+use Rattle.replaying.proofs.Stretches.{along-start, along-turn, along-same, along-differs, along-other, along-past}
 use Rattle.replaying.proofs.compare.compare_stretch.Goals as goal
 
 pub loop-at-init : goal.loop-at-init
@@ -51,7 +46,7 @@ pub row_same-requires : goal.row_same-requires
 row_same-requires c = records-stand c.requires.track_fits.1 c.loop-at.invariant.stands c.loop-at-test.true c.predecessor_place-place.ensures c.requires.track_fits.0 refl
 
 pub returns-then-not-row_same : goal.returns-then-not-row_same
-returns-then-not-row_same c = along-differs c.loop-at.invariant (record { stands = row-stands c.requires.track_fits.1 c.loop-at.invariant.stands c.loop-at-test.true; minute-is = sym (own-minute c.requires.track_fits.1 c.loop-at.invariant.stands c.loop-at-test.true c.minute_of.ensures) ∙ c.if-minute_of-minute.false; is = sym (row-compared c.requires.track_fits.1 c.loop-at.invariant.stands c.loop-at-test.true c.predecessor_place-place.ensures _ c.row_same.ensures) ∙ not-true _ c.if-not-row_same.true })
+returns-then-not-row_same c = along-differs c.loop-at.invariant (record { stands = row-stands c.requires.track_fits.1 c.loop-at.invariant.stands c.loop-at-test.true; minute-is = sym (own-minute c.requires.track_fits.1 c.loop-at.invariant.stands c.loop-at-test.true c.minute_of.ensures) ∙ c.if-minute_of-minute.false; is = sym (row-compared c.requires.track_fits.1 c.loop-at.invariant.stands c.loop-at-test.true c.predecessor_place-place.ensures _ c.row_same.ensures) ∙ c.if-not-row_same.true })
 
 pub candidate_count-requires : goal.candidate_count-requires
 candidate_count-requires c = omega (arith, own-head c.requires.track_fits.1 c.loop-at.invariant.stands c.loop-at-test.true)
@@ -73,7 +68,7 @@ unfolding record_length
 loop-at-smaller c = omega (arith, c.record_length-at.ensures.0, c.loop-at-test.true)
 
 pub loop-at-preserved : goal.loop-at-preserved
-loop-at-preserved c = along-turn c.loop-at.invariant (next-at c.requires.track_fits.1 c.loop-at.invariant.stands c.loop-at-test.true c.candidate_count.ensures c.before_count.ensures c.record_length-at.ensures.0).1 (record { stands = row-stands c.requires.track_fits.1 c.loop-at.invariant.stands c.loop-at-test.true; minute-is = sym (own-minute c.requires.track_fits.1 c.loop-at.invariant.stands c.loop-at-test.true c.minute_of.ensures) ∙ c.if-minute_of-minute.false; is = sym (row-compared c.requires.track_fits.1 c.loop-at.invariant.stands c.loop-at-test.true c.predecessor_place-place.ensures _ c.row_same.ensures) ∙ not-false _ c.if-not-row_same.false })
+loop-at-preserved c = along-turn c.loop-at.invariant (next-at c.requires.track_fits.1 c.loop-at.invariant.stands c.loop-at-test.true c.candidate_count.ensures c.before_count.ensures c.record_length-at.ensures.0).1 (record { stands = row-stands c.requires.track_fits.1 c.loop-at.invariant.stands c.loop-at-test.true; minute-is = sym (own-minute c.requires.track_fits.1 c.loop-at.invariant.stands c.loop-at-test.true c.minute_of.ensures) ∙ c.if-minute_of-minute.false; is = sym (row-compared c.requires.track_fits.1 c.loop-at.invariant.stands c.loop-at-test.true c.predecessor_place-place.ensures _ c.row_same.ensures) ∙ c.if-not-row_same.false })
 
 pub returns : goal.returns
 returns c = along-same c.loop-at.invariant (along-past c.loop-at.invariant c.requires.stands_at.0 c.requires.stands_at.1 c.loop-at-test.false)

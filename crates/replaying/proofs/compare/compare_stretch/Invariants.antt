@@ -1,14 +1,9 @@
 -- What the loop of `replaying::compare::compare_stretch` keeps.
 use Prim.Native.Nat.{◌-◌}
-use native.Mathlib.Omega.{arith}
-use mathlib.Core.Path.{refl, sym, ◌∙◌}
-use borrow.Author.Tests.{not-true, not-false}
-use Rattle.journal.specs.Record.{record_length}
 use Rattle.journal.specs.inner.Rows.{rows_in}
 use Rattle.transition.specs.Step.{step_on}
 use Rattle.transition.specs.inner.Track.{track_in}
-use Rattle.replaying.proofs.Standing.{few-rows, at_most, row-stands, at-inside, own-head, own-minute, counts-few, next-at, place-inside-words, records-stand, row-compared}
-use Rattle.replaying.proofs.Stretches.{Along, along-start, along-turn, along-same, along-differs, along-other, along-past}
+use Rattle.replaying.proofs.Stretches.{Along}
 use Rattle.replaying.proofs.compare.compare_stretch.Given as goal
 
 abbrev pub invariant-loop-at : goal.invariant-loop-at

@@ -1,7 +1,6 @@
 -- `replaying::row::row_same` meets its contract.
 use native.Mathlib.Omega.{arith}
 use mathlib.Core.Path.{sym}
-use borrow.Author.Rules.{rules}
 use lib.Seq.{length-take-le}
 use Rattle.replaying.proofs.Same.{own-some, own-record, few-distances, distances-stand, distances-are, fix-recorded, row-scorable, row-compared}
 use Rattle.replaying.proofs.row.row_same.Goals as goal

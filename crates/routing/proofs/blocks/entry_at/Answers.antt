@@ -1,5 +1,4 @@
 -- `routing::blocks::entry_at` meets its contract.
-use borrow.Author.Rules.{rules}
 use mathlib.Core.Path.{refl}
 use Rattle.routing.specs.inner.Blocks.{leader_at}
 use Rattle.routing.proofs.blocks.entry_at.Goals as goal

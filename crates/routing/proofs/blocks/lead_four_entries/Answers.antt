@@ -1,5 +1,4 @@
 -- `routing::blocks::lead_four_entries` meets its contract.
-use borrow.Author.Rules.{rules}
 use Rattle.routing.specs.inner.Blocks.{earliest_four}
 use Rattle.routing.proofs.blocks.lead_four_entries.Goals as goal
 

@@ -1,5 +1,4 @@
 -- `routing::blocks::lead_four_states` meets its contract.
-use borrow.Author.Rules.{rules}
 use Rattle.routing.specs.inner.Blocks.{earliest_four}
 use Rattle.routing.proofs.blocks.lead_four_states.Goals as goal
 

@@ -1,5 +1,4 @@
 -- `routing::blocks::lower_cost` meets its contract.
-use borrow.Author.Rules.{rules}
 use mathlib.Core.Path.{refl}
 use Rattle.routing.proofs.Leaders.{led-settled, led-lowered}
 use Rattle.routing.proofs.blocks.lower_cost.Goals as goal

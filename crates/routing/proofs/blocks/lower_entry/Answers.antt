@@ -1,10 +1,9 @@
 -- `routing::blocks::lower_entry` meets its contract.
-use borrow.Author.Rules.{rules}
 use Rattle.routing.proofs.blocks.lower_entry.Goals as goal
 
 pub returns : goal.returns
 returns c =
     record {
-      leaders_after = (rw (← c.entry_at.ensures, ← c.lowered_by-l.ensures) c.put_entry.ensures).0;
-      keys_after = (rw (← c.entry_at.ensures, ← c.lowered_by-l.ensures) c.put_entry.ensures).1;
+      leaders_after = rw (← c.entry_at.ensures, ← c.lowered_by-l.ensures) c.put_entry.ensures.leaders_after;
+      keys_after = rw (← c.entry_at.ensures, ← c.lowered_by-l.ensures) c.put_entry.ensures.keys_after;
     }

@@ -1,5 +1,4 @@
 -- `routing::blocks::mark_state` meets its contract.
-use borrow.Author.Rules.{rules}
 use mathlib.Core.Path.{refl}
 use native.Mathlib.Omega.{arith}
 use Rattle.routing.proofs.Leaders.{led-marked}

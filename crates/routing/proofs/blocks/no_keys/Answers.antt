@@ -1,5 +1,4 @@
 -- `routing::blocks::no_keys` meets its contract.
-use borrow.Author.Rules.{rules}
 use mathlib.Core.Path.{ap}
 use lib.ListN.{replicate}
 use Rattle.routing.specs.inner.Blocks.{no_keys}

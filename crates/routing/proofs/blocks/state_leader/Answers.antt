@@ -1,5 +1,4 @@
 -- `routing::blocks::state_leader` meets its contract.
-use borrow.Author.Rules.{rules}
 use Rattle.routing.specs.inner.Blocks.{key_of, state_leader}
 use Rattle.routing.proofs.blocks.state_leader.Goals as goal
 

@@ -1,13 +1,11 @@
 -- `routing::goals::clear_goals` meets its contract.
 use mathlib.Core.Path.{◌≡◌, refl, ◌∙◌}
 use mathlib.Core.Bool.{false}
-use Prim.Native.Nat.{ℕ, ◌-◌, ◌<◌, ◌≤◌}
 use native.Mathlib.Nat.{not-suc-le-zero}
 use native.Mathlib.Omega.{arith}
-use lib.ListN.{length, get_or, drop, length-set}
+use lib.ListN.{length-set}
 use lib.Seq.{drop-set-lt}
-use lib.Ieee.{nan, inf}
-use borrow.Author.Rules.{rules}
+use lib.Ieee.{inf}
 use Rattle.routing.proofs.Noting.{written}
 use Rattle.routing.proofs.goals.clear_goals.Goals as goal
 

@@ -1,14 +1,9 @@
 -- What the loop of `routing::goals::clear_goals` keeps.
-use mathlib.Core.Path.{◌≡◌, refl, ◌∙◌}
+use mathlib.Core.Path.{◌≡◌}
 use mathlib.Core.Bool.{false}
 use Prim.Native.Nat.{ℕ, ◌-◌, ◌<◌, ◌≤◌}
-use native.Mathlib.Nat.{not-suc-le-zero}
-use native.Mathlib.Omega.{arith}
-use lib.ListN.{length, get_or, drop, length-set}
-use lib.Seq.{drop-set-lt}
+use lib.ListN.{length, get_or, drop}
 use lib.Ieee.{nan, inf}
-use borrow.Author.Rules.{rules}
-use Rattle.routing.proofs.Noting.{written}
 use Rattle.routing.proofs.goals.clear_goals.Given as goal
 
 abbrev pub invariant-loop-k : goal.invariant-loop-k

@@ -1,5 +1,4 @@
 -- `routing::goals::distances_from` meets its contract.
-use borrow.Author.Rules.{rules}
 use mathlib.Core.Path.{ap, ap₂, refl, ◌∙◌}
 use mathlib.Core.List.{◌++◌}
 use native.Mathlib.Omega.{arith}
@@ -25,7 +24,7 @@ serve_goals-requires c =
     record {
       sound_graph = c.requires.sound_graph;
       blocks = begun-blocks c.args.start c.no_costs-costs.ensures c.no_preds-preds.ensures c.no_marks-marks.ensures _ c.requires.sound_graph c.no_leaders-leaders.ensures c.no_keys-keys.ensures c.requires.start_bound c.lower_cost.ensures.costs_after c.lower_cost.ensures.led_2;
-      goals_in_bounds = omega (arith, c.found-1.given, c.requires.goals_in_bounds);
+      goals_in_bounds = omega (arith, c.requires.goals_in_bounds);
       each = c.clear_goals.ensures.by_index;
     }
 

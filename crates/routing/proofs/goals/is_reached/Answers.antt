@@ -1,5 +1,4 @@
 -- `routing::goals::is_reached` meets its contract.
-use borrow.Author.Rules.{rules}
 use mathlib.Core.Path.{ap}
 use lib.Ieee.{lt}
 use Rattle.routing.proofs.goals.is_reached.Goals as goal

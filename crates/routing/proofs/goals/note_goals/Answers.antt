@@ -1,12 +1,9 @@
 -- `routing::goals::note_goals` meets its contract.
-use mathlib.Core.Path.{◌≡◌, refl, sym, ◌∙◌}
-use mathlib.Core.Logic.{⊎_elim}
-use Prim.Native.Nat.{◌-◌, ◌≤◌}
+use mathlib.Core.Path.{refl, sym, ◌∙◌}
 use native.Mathlib.Omega.{arith}
-use lib.ListN.{length}
-use borrow.Author.Rules.{rules}
-use Rattle.routing.proofs.Noting.{Noting, noting-none, noting-on, noting-done, not-false}
+use Rattle.routing.proofs.Noting.{noting-none, noting-on, noting-done}
 use Rattle.routing.proofs.goals.note_goals.Goals as goal
+use Rattle.routing.proofs.goals.note_goals.Goals.{then-not-is_reached, else-not-is_reached}
 
 pub loop-k-init : goal.loop-k-init
 loop-k-init c = (refl, omega arith, noting-none _ _ _ _)
@@ -39,7 +36,14 @@ pub loop-k-smaller : goal.loop-k-smaller
 loop-k-smaller c = omega arith
 
 pub loop-k-preserved : goal.loop-k-preserved
-loop-k-preserved c = (c.loop-k.invariant.0, omega arith, ⊎_elim (λ w. noting-on _ _ _ _ _ _ _ c.loop-k.invariant.2 (omega (arith, c.loop-k-test.true, c.loop-k.invariant.0)) (omega (arith, c.loop-k-test.true, c.loop-k.invariant.0, c.requires)) c.noted_cost-known.ensures (omega (arith, w.1, c.loop-k.invariant.2.few)) (λ z. absurd (omega (arith, w.1)))) (λ w. noting-on _ _ _ _ _ _ _ c.loop-k.invariant.2 (omega (arith, c.loop-k-test.true, c.loop-k.invariant.0)) (omega (arith, c.loop-k-test.true, c.loop-k.invariant.0, c.requires)) c.noted_cost-known.ensures (omega (arith, w.1, c.loop-k.invariant.2.few)) (λ z. (omega (arith, w.1), sym c.is_reached.ensures ∙ not-false _ w.0.left))) c.if-not-is_reached.branch)
+loop-k-preserved c = (
+  c.loop-k.invariant.0,
+  omega arith,
+  elim c.if-not-is_reached.branch [
+    | then-not-is_reached w ↦ noting-on _ _ _ _ _ _ _ c.loop-k.invariant.2 (omega (arith, c.loop-k-test.true, c.loop-k.invariant.0)) (omega (arith, c.loop-k-test.true, c.loop-k.invariant.0, c.requires)) c.noted_cost-known.ensures (omega (arith, w.waiting-is, c.loop-k.invariant.2.few)) (λ z. absurd (omega (arith, w.waiting-is)))
+    | else-not-is_reached w ↦ noting-on _ _ _ _ _ _ _ c.loop-k.invariant.2 (omega (arith, c.loop-k-test.true, c.loop-k.invariant.0)) (omega (arith, c.loop-k-test.true, c.loop-k.invariant.0, c.requires)) c.noted_cost-known.ensures (omega (arith, w.waiting-is, c.loop-k.invariant.2.few)) (λ z. (omega (arith, w.waiting-is), sym c.is_reached.ensures ∙ w.if-not-is_reached.false))
+  ],
+)
 
 pub shape_of-found : goal.shape_of-found
 shape_of-found c = c.loop-k.invariant.2.kept

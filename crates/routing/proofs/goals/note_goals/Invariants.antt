@@ -1,11 +1,8 @@
 -- What the loop of `routing::goals::note_goals` keeps.
-use mathlib.Core.Path.{◌≡◌, refl, sym, ◌∙◌}
-use mathlib.Core.Logic.{⊎_elim}
+use mathlib.Core.Path.{◌≡◌}
 use Prim.Native.Nat.{◌-◌, ◌≤◌}
-use native.Mathlib.Omega.{arith}
 use lib.ListN.{length}
-use borrow.Author.Rules.{rules}
-use Rattle.routing.proofs.Noting.{Noting, noting-none, noting-on, noting-done, not-false}
+use Rattle.routing.proofs.Noting.{Noting}
 use Rattle.routing.proofs.goals.note_goals.Given as goal
 
 abbrev pub invariant-loop-k : goal.invariant-loop-k

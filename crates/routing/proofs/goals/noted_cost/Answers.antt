@@ -1,5 +1,4 @@
 -- `routing::goals::noted_cost` meets its contract.
-use borrow.Author.Rules.{rules}
 use mathlib.Core.Path.{sym, ◌∙◌}
 use borrow.Author.Tests.{eq-eqb, ne_eqb}
 use Rattle.routing.specs.inner.Goals.{noted}

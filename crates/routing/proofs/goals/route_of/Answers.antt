@@ -1,5 +1,4 @@
 -- `routing::goals::route_of` meets its contract.
-use borrow.Author.Rules.{rules}
 use mathlib.Core.Path.{sym, ◌∙◌}
 use Rattle.routing.specs.inner.Goals.{route_of}
 use Rattle.routing.proofs.goals.route_of.Goals as goal

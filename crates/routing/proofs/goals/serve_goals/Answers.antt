@@ -1,43 +1,13 @@
 -- `routing::goals::serve_goals` meets its contract.
-use mathlib.Core.Path.{◌≡◌, refl, sym, ◌∙◌}
-use mathlib.Core.Bool.{true, false}
-use Prim.Native.Nat.{ℕ, ◌*◌, ◌≤◌, ◌<◌}
+use mathlib.Core.Path.{refl, sym, ◌∙◌}
 use native.Mathlib.Omega.{arith}
-use lib.ListN.{length, get_or, drop}
-use lib.Ieee.{nan, inf, lt}
-use borrow.Author.Rules.{rules}
-use Rattle.network.specs.Graph.{Graph, element_count}
 use Rattle.network.specs.inner.Compiled.{graph_in}
-use Rattle.routing.specs.declared.search.Pick.TheVariants.{At}
-use Rattle.routing.specs.Search.{Search, search_of, next, search_in}
-use Rattle.routing.specs.inner.Search.{unsettled}
-use Rattle.routing.specs.inner.Blocks.{Blocks}
+use Rattle.routing.specs.Search.{search_of, next}
 use Rattle.routing.proofs.Turns.{below, turn-less}
 use Rattle.routing.proofs.Leaders.{blocks-fit}
 use Rattle.routing.proofs.Noting.{costs-all}
-use Rattle.routing.proofs.Served.{Served, served-begins, served-reached, served-none, served-on}
+use Rattle.routing.proofs.Served.{served-begins, served-reached, served-none, served-on}
 use Rattle.routing.proofs.goals.serve_goals.Goals as goal
-
--- the graph, the search at the loop's head, and the state picked
-module _ (c : tie.After-known-told invariant-loop decreases-loop) where
-  abbrev g : Graph
-  g = graph_in c.before.before.before.before.before.before.before.before.before.before.before.before.before.args.lengths.now c.before.before.before.before.before.before.before.before.before.before.before.before.before.args.heads.now c.before.before.before.before.before.before.before.before.before.before.before.before.before.args.links.now
-
-  abbrev q : Search
-  q = search_of c.before.before.before.before.before.before.before.before.before.loop.costs c.before.before.before.before.before.before.before.before.before.loop.preds c.before.before.before.before.before.before.before.before.before.loop.marks
-
-  abbrev s : ℕ
-  s = c.before.picked.given.0.0
-
-  fits : 4 * element_count g ≤ length q.marks
-  fits = blocks-fit c.before.before.before.before.before.before.before.before.before.loop.invariant.0
-
-  picked : next g q ≡ At s
-  unfolding next
-  picked = sym c.before.before.before.next-state.ensures ∙ c.before.picked.given.1
-
-  s-below : s < 4 * element_count g
-  s-below = below g 0 q s fits picked
 
 pub loop-waiting-init : goal.loop-waiting-init
 loop-waiting-init c = (c.requires.blocks, refl, λ k h. served-begins _ _ _ (c.requires.each k h), λ z k h. absurd (omega (arith, z, h)), refl)
@@ -49,30 +19,35 @@ pub next_state-picked-requires : goal.next_state-picked-requires
 next_state-picked-requires c = c.loop-waiting.invariant.0
 
 pub offset_bounds-costs-s : goal.offset_bounds-costs-s
-offset_bounds-costs-s c = omega (arith, s-below c, c.requires.sound_graph.few)
+unfolding next
+offset_bounds-costs-s c = omega (arith, below (graph_in c.args.lengths.now c.args.heads.now c.args.links.now) 0 (search_of c.loop-waiting.costs c.loop-waiting.preds c.loop-waiting.marks) c.in-At.s (blocks-fit c.loop-waiting.invariant.0) (sym c.next_state-picked.ensures ∙ c.in-At.is), c.requires.sound_graph.few)
 
 pub bounds-costs-s : goal.bounds-costs-s
-bounds-costs-s c = omega (arith, s-below c, c.requires.sound_graph.few)
+unfolding next
+bounds-costs-s c = omega (arith, below (graph_in c.args.lengths.now c.args.heads.now c.args.links.now) 0 (search_of c.loop-waiting.costs c.loop-waiting.preds c.loop-waiting.marks) c.in-At.s (blocks-fit c.loop-waiting.invariant.0) (sym c.next_state-picked.ensures ∙ c.in-At.is), c.requires.sound_graph.few)
 
 pub note_goals-waiting-requires : goal.note_goals-waiting-requires
 note_goals-waiting-requires c = omega (arith, c.loop-waiting.invariant.1, c.requires.goals_in_bounds)
 
 pub settle-requires : goal.settle-requires
+unfolding next
 settle-requires c =
     record {
       sound_graph = c.requires.sound_graph;
-      s_bound = s-below c;
+      s_bound = below (graph_in c.args.lengths.now c.args.heads.now c.args.links.now) 0 (search_of c.loop-waiting.costs c.loop-waiting.preds c.loop-waiting.marks) c.in-At.s (blocks-fit c.loop-waiting.invariant.0) (sym c.next_state-picked.ensures ∙ c.in-At.is);
       blocks = c.loop-waiting.invariant.0;
     }
 
 pub loop-waiting-smaller : goal.loop-waiting-smaller
-loop-waiting-smaller c = turn-less _ 0 _ _ (fits c) (picked c) c.settle.ensures.marks_after
+unfolding next
+loop-waiting-smaller c = turn-less _ 0 _ _ (blocks-fit c.loop-waiting.invariant.0) (sym c.next_state-picked.ensures ∙ c.in-At.is) c.settle.ensures.marks_after
 
 pub loop-waiting-preserved : goal.loop-waiting-preserved
+unfolding next
 loop-waiting-preserved c = (
   c.settle.ensures.blocks_after,
-  c.found-1.given ∙ c.loop-waiting.invariant.1,
-  λ k h. rw (c.note_goals-waiting.ensures.each k h) (served-on _ _ _ _ (c.loop-waiting.invariant.2 k h) _ (fits c) (picked c) c.settle.ensures.marks_after),
+  omega (arith, c.loop-waiting.invariant.1),
+  λ k h. rw (c.note_goals-waiting.ensures.each k h) (served-on _ _ _ _ (c.loop-waiting.invariant.2 k h) _ (blocks-fit c.loop-waiting.invariant.0) (sym c.next_state-picked.ensures ∙ c.in-At.is) c.settle.ensures.marks_after),
   c.note_goals-waiting.ensures.reached,
   c.note_goals-waiting.ensures.past ∙ c.loop-waiting.invariant.4,
 )

@@ -1,21 +1,14 @@
 -- What the loop of `routing::goals::serve_goals` keeps.
-use mathlib.Core.Path.{◌≡◌, refl, sym, ◌∙◌}
+use mathlib.Core.Path.{◌≡◌}
 use mathlib.Core.Bool.{true, false}
-use Prim.Native.Nat.{ℕ, ◌*◌, ◌≤◌, ◌<◌}
-use native.Mathlib.Omega.{arith}
+use Prim.Native.Nat.{ℕ, ◌*◌, ◌<◌}
 use lib.ListN.{length, get_or, drop}
 use lib.Ieee.{nan, inf, lt}
-use borrow.Author.Rules.{rules}
-use Rattle.network.specs.Graph.{Graph, element_count}
 use Rattle.network.specs.inner.Compiled.{graph_in}
-use Rattle.routing.specs.declared.search.Pick.TheVariants.{At}
-use Rattle.routing.specs.Search.{Search, search_of, next, search_in}
+use Rattle.routing.specs.Search.{search_of, search_in}
 use Rattle.routing.specs.inner.Search.{unsettled}
 use Rattle.routing.specs.inner.Blocks.{Blocks}
-use Rattle.routing.proofs.Turns.{below, turn-less}
-use Rattle.routing.proofs.Leaders.{blocks-fit}
-use Rattle.routing.proofs.Noting.{costs-all}
-use Rattle.routing.proofs.Served.{Served, served-begins, served-reached, served-none, served-on}
+use Rattle.routing.proofs.Served.{Served}
 use Rattle.routing.proofs.goals.serve_goals.Given as goal
 
 abbrev pub invariant-loop-waiting : goal.invariant-loop-waiting

@@ -1,5 +1,4 @@
 -- `routing::route::distance_between` meets its contract.
-use borrow.Author.Rules.{rules}
 use mathlib.Core.Path.{ap, ◌∙◌}
 use mathlib.Core.List.{List}
 use Prim.Native.Nat.{◌/◌, ◌%◌}

@@ -1,6 +1,5 @@
 -- `routing::route::known_side` meets its contract.
 use borrow.Author.Tests.{lt-ltb, le-ltb}
-use borrow.Author.Rules.{rules}
 use Rattle.routing.specs.Route.{known_side}
 use Rattle.routing.proofs.route.known_side.Goals as goal
 

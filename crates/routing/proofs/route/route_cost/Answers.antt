@@ -1,5 +1,4 @@
 -- `routing::route::route_cost` meets its contract.
-use borrow.Author.Rules.{rules}
 use mathlib.Core.Path.{sym, ap₂, ◌∙◌}
 use Rattle.network.specs.Graph.{node}
 use Rattle.routing.proofs.Routes.{known-node, node-between, route-unknown-start, route-unknown-goal}

@@ -1,5 +1,4 @@
 -- `routing::route::route_states` meets its contract.
-use borrow.Author.Rules.{rules}
 use mathlib.Core.Path.{refl, sym, ap₂, ◌∙◌}
 use Rattle.network.specs.Graph.{node}
 use Rattle.routing.specs.Route.{states_stored}

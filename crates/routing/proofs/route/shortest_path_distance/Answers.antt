@@ -1,5 +1,4 @@
 -- `routing::route::shortest_path_distance` meets its contract.
-use borrow.Author.Rules.{rules}
 use mathlib.Core.Path.{sym, ◌∙◌}
 use Rattle.network.proofs.Accepted.{accepted-sound}
 use Rattle.routing.proofs.Routes.{distance-accepted, distance-refused}

@@ -1,5 +1,4 @@
 -- `routing::route::shortest_path_route` meets its contract.
-use borrow.Author.Rules.{rules}
 use mathlib.Core.Path.{refl, sym, ◌∙◌}
 use Rattle.routing.specs.Route.{states_stored}
 use Rattle.network.proofs.Accepted.{accepted-sound}

@@ -1,17 +1,11 @@
 -- What the loop of `routing::search::find` keeps.
-use mathlib.Core.Path.{◌≡◌, refl, sym, ◌∙◌}
-use Prim.Native.Nat.{ℕ, ◌*◌, ◌≤◌, ◌<◌}
-use native.Mathlib.Omega.{arith}
+use mathlib.Core.Path.{◌≡◌}
+use Prim.Native.Nat.{◌*◌}
 use lib.ListN.{length}
-use borrow.Author.Rules.{rules}
-use Rattle.network.specs.Graph.{Graph, element_count}
 use Rattle.network.specs.inner.Compiled.{graph_in}
-use Rattle.routing.specs.declared.search.Pick.TheVariants.{At}
-use Rattle.routing.specs.Search.{Search, search_of, next, search_in}
+use Rattle.routing.specs.Search.{search_of, search_in}
 use Rattle.routing.specs.inner.Search.{unsettled}
 use Rattle.routing.specs.inner.Blocks.{Blocks}
-use Rattle.routing.proofs.Turns.{below, turn-found, turn-less, turn_on, run_none}
-use Rattle.routing.proofs.Leaders.{blocks-fit}
 use Rattle.routing.proofs.search.find.Given as goal
 
 -- what is left to run from here is what was to run

@@ -1,5 +1,4 @@
 -- `routing::search::lower_state` meets its contract.
-use borrow.Author.Rules.{rules}
 use native.Mathlib.Omega.{arith}
 use Rattle.binary64.proofs.Order.{taken}
 use Rattle.routing.specs.Search.{lower_cost}

@@ -1,5 +1,4 @@
 -- `routing::search::next_state` meets its contract.
-use borrow.Author.Rules.{rules}
 use mathlib.Core.Bool.{true, false}
 use Rattle.routing.proofs.Leaders.{pick-entries}
 use Rattle.routing.proofs.search.next_state.Goals as goal

@@ -1,7 +1,6 @@
 -- `routing::search::no_costs` meets its contract.
 use mathlib.Core.Path.{ap}
 use lib.ListN.{replicate}
-use borrow.Author.Rules.{rules}
 use Rattle.routing.specs.Search.{no_costs}
 use Rattle.routing.proofs.search.no_costs.Goals as goal
 

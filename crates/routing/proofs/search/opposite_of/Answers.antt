@@ -1,6 +1,5 @@
 -- `routing::search::opposite_of` meets its contract.
 use mathlib.Core.Path.{refl}
-use borrow.Author.Rules.{rules}
 use Rattle.network.specs.Walks.{opposite}
 use Rattle.routing.proofs.search.opposite_of.Goals as goal
 

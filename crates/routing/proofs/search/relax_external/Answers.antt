@@ -1,12 +1,8 @@
 -- `routing::search::relax_external` meets its contract.
 use native.Mathlib.Omega.{arith}
-use Prim.Native.Nat.{◌+◌, ◌*◌, ◌-◌, ◌≤◌}
-use borrow.Author.Rules.{rules}
+use Prim.Native.Nat.{◌+◌, ◌-◌}
 use lib.Ieee.{of_bits}
-use Rattle.network.specs.inner.Compiled.{chain}
-use Rattle.routing.specs.Search.{tables, relax_external}
-use Rattle.routing.specs.inner.Blocks.{Blocks}
-use Rattle.routing.proofs.Following.{Left, left-all, left-lands, left-on, left-none, left_out}
+use Rattle.routing.proofs.Following.{left-all, left-lands, left-on, left-none, left_out}
 use Rattle.routing.proofs.search.relax_external.Goals as goal
 
 pub loop-i-init : goal.loop-i-init

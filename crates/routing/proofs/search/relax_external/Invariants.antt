@@ -1,12 +1,9 @@
 -- What the loop of `routing::search::relax_external` keeps.
-use native.Mathlib.Omega.{arith}
-use Prim.Native.Nat.{◌+◌, ◌*◌, ◌-◌, ◌≤◌}
-use borrow.Author.Rules.{rules}
-use lib.Ieee.{of_bits}
+use Prim.Native.Nat.{◌*◌, ◌-◌, ◌≤◌}
 use Rattle.network.specs.inner.Compiled.{chain}
 use Rattle.routing.specs.Search.{tables, relax_external}
 use Rattle.routing.specs.inner.Blocks.{Blocks}
-use Rattle.routing.proofs.Following.{Left, left-all, left-lands, left-on, left-none, left_out}
+use Rattle.routing.proofs.Following.{Left}
 use Rattle.routing.proofs.search.relax_external.Given as goal
 
 -- what is left to follow makes of the tables what the whole does

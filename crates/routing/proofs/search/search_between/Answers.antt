@@ -1,5 +1,4 @@
 -- `routing::search::search_between` meets its contract.
-use borrow.Author.Rules.{rules}
 use mathlib.Core.Path.{ap}
 use lib.Ieee.{of_bits}
 use Rattle.routing.specs.Search.{Ended}

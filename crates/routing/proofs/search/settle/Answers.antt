@@ -1,6 +1,5 @@
 -- `routing::search::settle` meets its contract.
 use native.Mathlib.Omega.{arith}
-use borrow.Author.Rules.{rules}
 use Rattle.routing.proofs.Turns.{settled-odd, settled-even}
 use Rattle.network.proofs.Links.{opposite-lands}
 use Rattle.routing.proofs.Leaders.{blocks-marked}
@@ -38,7 +37,7 @@ pub lower_state-requires : goal.lower_state-requires
 lower_state-requires c =
     record {
       from_bound = rw c.opposite_of.ensures ((omega (arith, c.requires.s_bound, c.requires.sound_graph.few), opposite-lands _ _ c.requires.s_bound));
-      blocks = rw c.opposite_of.ensures (blocks-marked c.requires.blocks c.mark_state.ensures.led_2);
+      blocks = blocks-marked c.requires.blocks c.mark_state.ensures.led_2;
     }
 
 pub relax_external-requires : goal.relax_external-requires

@@ -1,7 +1,6 @@
 -- `routing::states::list_back` meets its contract.
 use mathlib.Core.Path.{refl}
 use borrow.Author.Tests.{le-leb, lt-leb}
-use borrow.Author.Rules.{rules}
 use Rattle.routing.specs.Route.{route_fitted, states_stored}
 use Rattle.routing.proofs.states.list_back.Goals as goal
 

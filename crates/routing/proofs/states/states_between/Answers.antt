@@ -1,5 +1,4 @@
 -- `routing::states::states_between` meets its contract.
-use borrow.Author.Rules.{rules}
 use mathlib.Core.Path.{refl}
 use native.Mathlib.Omega.{arith}
 use Rattle.routing.specs.Route.{states_stored}

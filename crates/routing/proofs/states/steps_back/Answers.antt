@@ -1,10 +1,6 @@
 -- `routing::states::steps_back` meets its contract.
-use mathlib.Core.Path.{◌≡◌}
-use Prim.Native.Nat.{◌+◌, ◌-◌, ◌≤◌, ◌<◌}
 use native.Mathlib.Nat.{sub-zero, zero-add}
 use native.Mathlib.Omega.{arith}
-use borrow.Author.Rules.{rules}
-use Rattle.routing.specs.Route.{steps_back}
 use Rattle.routing.proofs.Back.{steps-stop, steps_on, steps-end}
 use Rattle.routing.proofs.states.steps_back.Goals as goal
 

@@ -1,11 +1,7 @@
 -- What the loop of `routing::states::steps_back` keeps.
 use mathlib.Core.Path.{◌≡◌}
 use Prim.Native.Nat.{◌+◌, ◌-◌, ◌≤◌, ◌<◌}
-use native.Mathlib.Nat.{sub-zero, zero-add}
-use native.Mathlib.Omega.{arith}
-use borrow.Author.Rules.{rules}
 use Rattle.routing.specs.Route.{steps_back}
-use Rattle.routing.proofs.Back.{steps-stop, steps_on, steps-end}
 use Rattle.routing.proofs.states.steps_back.Given as goal
 
 abbrev pub invariant-loop-n : goal.invariant-loop-n

@@ -1,10 +1,8 @@
 -- `routing::states::write_back` meets its contract.
-use mathlib.Core.Path.{◌≡◌, refl, ◌∙◌}
-use mathlib.Core.List.{reverse_aux, reverse_aux-eq}
-use Prim.Native.Nat.{◌-◌, ◌≤◌, ◌<◌}
+use mathlib.Core.Path.{refl, ◌∙◌}
+use mathlib.Core.List.{reverse_aux-eq}
 use native.Mathlib.Omega.{arith}
-use lib.ListN.{length, drop, length-set}
-use borrow.Author.Rules.{rules}
+use lib.ListN.{drop, length-set}
 use Rattle.routing.specs.Route.{states_back}
 use Rattle.routing.proofs.Back.{write-turn, write-end}
 use Rattle.routing.proofs.states.write_back.Goals as goal

@@ -1,12 +1,9 @@
 -- What the loop of `routing::states::write_back` keeps.
-use mathlib.Core.Path.{◌≡◌, refl, ◌∙◌}
-use mathlib.Core.List.{reverse_aux, reverse_aux-eq}
-use Prim.Native.Nat.{◌-◌, ◌≤◌, ◌<◌}
-use native.Mathlib.Omega.{arith}
-use lib.ListN.{length, drop, length-set}
-use borrow.Author.Rules.{rules}
+use mathlib.Core.Path.{◌≡◌}
+use mathlib.Core.List.{reverse_aux}
+use Prim.Native.Nat.{◌≤◌, ◌<◌}
+use lib.ListN.{length, drop}
 use Rattle.routing.specs.Route.{states_back}
-use Rattle.routing.proofs.Back.{write-turn, write-end}
 use Rattle.routing.proofs.states.write_back.Given as goal
 
 abbrev pub invariant-loop-i : goal.invariant-loop-i

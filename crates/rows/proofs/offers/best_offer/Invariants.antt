@@ -1,16 +1,12 @@
 -- What the loop of `rows::offers::best_offer` keeps.
-use mathlib.Core.Path.{◌≡◌, ◌∙◌}
-use Prim.Native.Nat.{◌+◌, ◌*◌, ◌≤◌, ◌<◌, ◌-◌}
-use native.Mathlib.Omega.{arith}
+use mathlib.Core.Path.{◌≡◌}
+use Prim.Native.Nat.{◌+◌, ◌*◌, ◌≤◌, ◌-◌}
 use lib.ListN.{get_or}
 use Rattle.binary64.specs.Values.{pzero}
 use Rattle.journal.specs.Record.{read_row}
 use Rattle.transition.specs.inner.Costs.{routes_at}
 use Rattle.transition.specs.inner.Track.{step_through}
 use Rattle.rows.specs.inner.Scoring.{offer_to, best_offer}
-use Rattle.rows.proofs.Best.{offers-none, offers-turn, offers-done}
-use Rattle.rows.proofs.Records.{size-narrow, stands_at}
-use Rattle.rows.proofs.Through.{pair_inside, pair_held, columns-fit}
 use Rattle.rows.proofs.offers.best_offer.Given as goal
 
 abbrev pub invariant-loop-j : goal.invariant-loop-j

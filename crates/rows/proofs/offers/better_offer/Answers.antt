@@ -1,5 +1,4 @@
 -- `rows::offers::better_offer` meets its contract.
-use borrow.Author.Rules.{rules}
 use Rattle.rows.proofs.Best.{offer-taken, offer-left, offer-impossible}
 use Rattle.rows.proofs.offers.better_offer.Goals as goal
 

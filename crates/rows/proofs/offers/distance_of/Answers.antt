@@ -1,6 +1,5 @@
 -- `rows::offers::distance_of` meets its contract.
 use lib.Ieee.{nan}
-use borrow.Author.Rules.{rules}
 use Rattle.binary64.specs.Values.{pzero}
 use Rattle.journal.proofs.Lists.{default-inside}
 use Rattle.rows.proofs.offers.distance_of.Goals as goal

@@ -1,5 +1,4 @@
 -- `rows::offers::offer_of` meets its contract.
-use borrow.Author.Rules.{rules}
 use Rattle.rows.specs.inner.Scoring.{offer_to}
 use Rattle.rows.proofs.offers.offer_of.Goals as goal
 

@@ -1,11 +1,5 @@
 -- `rows::previous::best_previous` meets its contract.
-use mathlib.Core.Path.{◌≡◌}
-use Prim.Native.Nat.{◌≤◌, ◌-◌}
 use native.Mathlib.Omega.{arith}
-use Rattle.journal.specs.Row.{score_of}
-use Rattle.journal.specs.Record.{read_row}
-use Rattle.rows.specs.Row.{last_best}
-use Rattle.rows.specs.inner.Scoring.{previous_of}
 use Rattle.rows.proofs.Best.{previous-none, previous-turn, previous-done}
 use Rattle.rows.proofs.Records.{size-narrow, stands_at}
 use Rattle.rows.proofs.previous.best_previous.Goals as goal

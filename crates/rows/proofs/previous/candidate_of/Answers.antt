@@ -1,6 +1,5 @@
 -- `rows::previous::candidate_of` meets its contract.
 use mathlib.Core.Path.{sym, ap, ◌∙◌}
-use borrow.Author.Rules.{rules}
 use Rattle.journal.specs.Row.{Cell}
 use Rattle.journal.proofs.RecordRead.{row-cell}
 use Rattle.rows.proofs.previous.candidate_of.Goals as goal

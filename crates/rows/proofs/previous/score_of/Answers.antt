@@ -1,6 +1,5 @@
 -- `rows::previous::score_of` meets its contract.
 use mathlib.Core.Path.{sym, ◌∙◌}
-use borrow.Author.Rules.{rules}
 use Rattle.journal.proofs.RecordRead.{row-score}
 use Rattle.rows.proofs.previous.score_of.Goals as goal
 

@@ -1,6 +1,5 @@
 -- `rows::record::before_count` meets its contract.
 use mathlib.Core.Path.{sym}
-use borrow.Author.Rules.{rules}
 use Rattle.journal.proofs.RecordRead.{row_before}
 use Rattle.rows.proofs.record.before_count.Goals as goal
 

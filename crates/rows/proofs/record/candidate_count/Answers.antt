@@ -1,6 +1,5 @@
 -- `rows::record::candidate_count` meets its contract.
 use mathlib.Core.Path.{sym}
-use borrow.Author.Rules.{rules}
 use Rattle.journal.proofs.RecordRead.{row-size}
 use Rattle.rows.proofs.record.candidate_count.Goals as goal
 

@@ -1,10 +1,8 @@
 -- `rows::record::candidates_at` meets its contract.
 use mathlib.Core.Path.{refl, sym, ◌∙◌}
-use Prim.Native.Nat.{◌≤◌, ◌-◌}
 use native.Mathlib.Omega.{arith}
-use Rattle.journal.specs.Row.{fix_of}
 use Rattle.journal.specs.Record.{read_row}
-use Rattle.journal.proofs.Gathered.{Gathered, gathered_none, gathered-turn, gathered-done}
+use Rattle.journal.proofs.Gathered.{gathered_none, gathered-turn, gathered-done}
 use Rattle.rows.proofs.Records.{candidates-many, candidate-at}
 use Rattle.rows.proofs.record.candidates_at.Goals as goal
 

@@ -1,11 +1,8 @@
 -- What the loop of `rows::record::candidates_at` keeps.
-use mathlib.Core.Path.{refl, sym, ◌∙◌}
 use Prim.Native.Nat.{◌≤◌, ◌-◌}
-use native.Mathlib.Omega.{arith}
 use Rattle.journal.specs.Row.{fix_of}
 use Rattle.journal.specs.Record.{read_row}
-use Rattle.journal.proofs.Gathered.{Gathered, gathered_none, gathered-turn, gathered-done}
-use Rattle.rows.proofs.Records.{candidates-many, candidate-at}
+use Rattle.journal.proofs.Gathered.{Gathered}
 use Rattle.rows.proofs.record.candidates_at.Given as goal
 
 abbrev pub invariant-loop-i : goal.invariant-loop-i

@@ -1,6 +1,5 @@
 -- `rows::record::parent_of` meets its contract.
 use mathlib.Core.Path.{sym}
-use borrow.Author.Rules.{rules}
 use Rattle.rows.proofs.Records.{row-parent}
 use Rattle.rows.proofs.record.parent_of.Goals as goal
 

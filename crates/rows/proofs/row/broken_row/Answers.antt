@@ -1,13 +1,8 @@
 -- `rows::row::broken_row` meets its contract.
-use mathlib.Core.Path.{◌≡◌, refl, ap, ◌∙◌}
-use Prim.Native.Nat.{◌≤◌, ◌-◌}
+use mathlib.Core.Path.{refl, ap, ◌∙◌}
 use native.Mathlib.Omega.{arith}
-use lib.ListN.{get_or}
-use borrow.Author.Rules.{rules}
-use Rattle.rows.specs.inner.Scoring.{Filled, broken_score}
-use Rattle.journal.specs.Row.{no_candidate}
+use Rattle.rows.specs.inner.Scoring.{broken_score}
 use Rattle.journal.specs.declared.record.Candidate.{Candidate}
-use Rattle.journal.specs.inner.Fix.{candidates_in}
 use Rattle.journal.proofs.Gathered.{count-in}
 use Rattle.rows.proofs.Filled.{filled_none, filled-turn, filled-done}
 use Rattle.rows.proofs.row.broken_row.Goals as goal

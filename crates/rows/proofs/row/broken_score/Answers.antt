@@ -1,6 +1,5 @@
 -- `rows::row::broken_score` meets its contract.
 use lib.Ieee.{of_bits}
-use borrow.Author.Rules.{rules}
 use Rattle.rows.specs.inner.Scoring.{broken_score}
 use Rattle.rows.proofs.row.broken_score.Goals as goal
 

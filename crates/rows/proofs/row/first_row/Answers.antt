@@ -1,13 +1,7 @@
 -- `rows::row::first_row` meets its contract.
-use mathlib.Core.Path.{◌≡◌, refl, ap, ◌∙◌}
-use Prim.Native.Nat.{◌≤◌, ◌-◌}
+use mathlib.Core.Path.{refl, ap, ◌∙◌}
 use native.Mathlib.Omega.{arith}
-use lib.ListN.{get_or}
-use borrow.Author.Rules.{rules}
-use Rattle.rows.specs.inner.Scoring.{Filled}
-use Rattle.journal.specs.Row.{no_parent, no_candidate}
 use Rattle.journal.specs.declared.record.Candidate.{Candidate}
-use Rattle.journal.specs.inner.Fix.{candidates_in}
 use Rattle.journal.proofs.Gathered.{count-in}
 use Rattle.rows.proofs.Filled.{filled_none, filled-turn, filled-done}
 use Rattle.rows.proofs.row.first_row.Goals as goal

@@ -1,15 +1,13 @@
 -- `rows::row::offers_row` meets its contract.
-use mathlib.Core.Path.{◌≡◌, refl, ◌∙◌}
-use Prim.Native.Nat.{◌*◌, ◌≤◌, ◌-◌}
+use mathlib.Core.Path.{refl, ◌∙◌}
+use Prim.Native.Nat.{◌*◌}
 use native.Mathlib.Omega.{arith}
-use borrow.Author.Rules.{rules}
 use Rattle.transition.specs.inner.Track.{track_in}
 use Rattle.journal.specs.inner.Fix.{fix_in}
 use Rattle.journal.specs.Record.{read_row}
 use Rattle.transition.specs.inner.Costs.{routes_at}
 use Rattle.transition.specs.Step.{step_on}
 use Rattle.transition.proofs.Held.{routes-many}
-use Rattle.rows.specs.inner.Scoring.{Offered}
 use Rattle.rows.proofs.Offered.{pairs-many, offered-none, offered-turn, offered-done}
 use Rattle.journal.proofs.Gathered.{count-in}
 use Rattle.rows.proofs.Nodes.{table_fits}
@@ -27,7 +25,7 @@ pair_routes-requires c =
       sound_graph = asked.fits.sound;
       record_known = asked.predecessor c.requires.bound;
       each = asked.element;
-      fact_4 = (asked.few-before, w, omega (arith, routes-many c.no_routes-found.ensures));
+      sizes = (asked.few-before, w, omega (arith, routes-many c.no_routes-found.ensures));
     }
 
 pub loop-i-init : goal.loop-i-init
@@ -41,7 +39,7 @@ best_offer-best-requires c =
     let w = c.requires.entries16 in
     let asked = c.requires.scorable in
     let l = c.loop-i-test.true in
-    let long = (c.pair_routes.auto.1.1.1.1.1.1.0 ∙ routes-many c.no_routes-found.ensures) in
+    let long = (c.pair_routes.auto.found ∙ routes-many c.no_routes-found.ensures) in
     let many = count-in _ w in
     let fits = table_fits c.args.before c.args.fix.count asked.few-before w.few in
     record {
@@ -78,7 +76,7 @@ loop-i-preserved c = let a = c.args in
     let f = fix_in a.fix a.distances.now in
     let many = count-in _ c.requires.entries16 in
     let p = read_row a.words.now in
-    let found = c.pair_routes.new.1.1.1.1.1.1.0 in
+    let found = c.pair_routes.new.found in
     let i = c.loop-i.i in
     let l = c.loop-i-test.true in (
       refl,

@@ -1,19 +1,11 @@
 -- What the loop of `rows::row::offers_row` keeps.
-use mathlib.Core.Path.{◌≡◌, refl, ◌∙◌}
-use Prim.Native.Nat.{◌*◌, ◌≤◌, ◌-◌}
-use native.Mathlib.Omega.{arith}
-use borrow.Author.Rules.{rules}
+use mathlib.Core.Path.{◌≡◌}
+use Prim.Native.Nat.{◌≤◌, ◌-◌}
 use Rattle.transition.specs.inner.Track.{track_in}
 use Rattle.journal.specs.inner.Fix.{fix_in}
 use Rattle.journal.specs.Record.{read_row}
-use Rattle.transition.specs.inner.Costs.{routes_at}
 use Rattle.transition.specs.Step.{step_on}
-use Rattle.transition.proofs.Held.{routes-many}
 use Rattle.rows.specs.inner.Scoring.{Offered}
-use Rattle.rows.proofs.Offered.{pairs-many, offered-none, offered-turn, offered-done}
-use Rattle.journal.proofs.Gathered.{count-in}
-use Rattle.rows.proofs.Nodes.{table_fits}
-use Rattle.rows.proofs.ByTable.{steps, offer-same}
 use Rattle.rows.proofs.row.offers_row.Given as goal
 
 abbrev pub invariant-loop-i : goal.invariant-loop-i

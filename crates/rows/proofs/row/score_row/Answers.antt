@@ -19,9 +19,9 @@ returns-then-before-eq0 c = first-scored _ _ _ _ c.if-before-eq0.true c.first_ro
 pub offers_row-possible-requires : goal.offers_row-possible-requires
 offers_row-possible-requires c =
     record {
-      bound = ((omega (arith, c.if-before-eq0.false), c.requires)).0;
-      entries16 = ((omega (arith, c.if-before-eq0.false), c.requires)).1;
-      scorable = ((omega (arith, c.if-before-eq0.false), c.requires)).2;
+      bound = omega (arith, c.if-before-eq0.false);
+      entries16 = c.requires.entries16;
+      scorable = c.requires.scorable;
     }
 
 pub shape_of-parents-then-possible : goal.shape_of-parents-then-possible

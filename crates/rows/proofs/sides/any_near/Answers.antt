@@ -1,12 +1,10 @@
 -- `rows::sides::any_near` meets its contract.
-use mathlib.Core.Path.{◌≡◌, refl}
-use mathlib.Core.Bool.{false}
-use Prim.Native.Nat.{◌-◌, ◌≤◌}
+use mathlib.Core.Path.{refl}
 use native.Mathlib.Omega.{arith}
 use Rattle.lists.proofs.Loops.{any_none}
 use Rattle.journal.specs.inner.Fix.{candidates_in}
 use Rattle.journal.proofs.Gathered.{count-in}
-use Rattle.rows.proofs.Nodes.{near_to, near-turn, near-found, near_none}
+use Rattle.rows.proofs.Nodes.{near-turn, near-found, near_none}
 use Rattle.rows.proofs.sides.any_near.Goals as goal
 
 pub loop-i-init : goal.loop-i-init

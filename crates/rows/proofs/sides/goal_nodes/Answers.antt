@@ -1,10 +1,8 @@
 -- `rows::sides::goal_nodes` meets its contract.
-use mathlib.Core.Path.{◌≡◌, refl, ◌∙◌}
+use mathlib.Core.Path.{refl, ◌∙◌}
 use mathlib.Core.Bool.{true}
-use Prim.Native.Nat.{◌-◌, ◌≤◌}
 use native.Mathlib.Omega.{arith}
-use lib.ListN.{length, get_or}
-use Rattle.rows.specs.inner.Sides.{SideNodes}
+use lib.ListN.{get_or}
 use Rattle.journal.specs.Row.{no_candidate}
 use Rattle.journal.specs.inner.Fix.{candidates_in}
 use Rattle.journal.proofs.Gathered.{count-in}

@@ -1,14 +1,11 @@
 -- What the loop of `rows::sides::goal_nodes` keeps.
-use mathlib.Core.Path.{◌≡◌, refl, ◌∙◌}
+use mathlib.Core.Path.{◌≡◌}
 use mathlib.Core.Bool.{true}
 use Prim.Native.Nat.{◌-◌, ◌≤◌}
-use native.Mathlib.Omega.{arith}
 use lib.ListN.{length, get_or}
 use Rattle.rows.specs.inner.Sides.{SideNodes}
 use Rattle.journal.specs.Row.{no_candidate}
 use Rattle.journal.specs.inner.Fix.{candidates_in}
-use Rattle.journal.proofs.Gathered.{count-in}
-use Rattle.rows.proofs.Nodes.{nodes-none, nodes-turn, nodes-done}
 use Rattle.rows.proofs.sides.goal_nodes.Given as goal
 
 abbrev pub invariant-loop-i : goal.invariant-loop-i

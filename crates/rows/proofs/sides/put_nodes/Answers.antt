@@ -1,5 +1,4 @@
 -- `rows::sides::put_nodes` meets its contract.
-use borrow.Author.Rules.{rules}
 use native.Mathlib.Nat.{add-zero}
 use Rattle.network.specs.Graph.{node}
 use Rattle.rows.specs.inner.Sides.{put_nodes}

@@ -1,5 +1,4 @@
 -- `rows::sides::put_start` meets its contract.
-use borrow.Author.Rules.{rules}
 use Rattle.rows.proofs.Nodes.{start-put, start-passed}
 use Rattle.rows.proofs.sides.put_start.Goals as goal
 

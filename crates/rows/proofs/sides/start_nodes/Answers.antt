@@ -1,11 +1,9 @@
 -- `rows::sides::start_nodes` meets its contract.
-use mathlib.Core.Path.{◌≡◌, refl, ◌∙◌}
-use Prim.Native.Nat.{◌-◌, ◌≤◌}
+use mathlib.Core.Path.{refl, ◌∙◌}
 use native.Mathlib.Omega.{arith}
-use lib.ListN.{length}
 use Rattle.journal.specs.Row.{cell_of}
 use Rattle.journal.specs.Record.{read_row}
-use Rattle.rows.specs.inner.Sides.{SideNodes, asks_from}
+use Rattle.rows.specs.inner.Sides.{asks_from}
 use Rattle.rows.proofs.Records.{stands_at}
 use Rattle.rows.proofs.Nodes.{nodes-none, nodes-turn, nodes-done}
 use Rattle.rows.proofs.sides.start_nodes.Goals as goal
@@ -32,7 +30,7 @@ loop-j-preserved c = let inv = c.loop-j.invariant in
     let p = read_row c.args.words.now in (
       omega (arith, l),
       c.starts-1.given ∙ inv.1,
-      nodes-turn (asks_from p c.args.own-near) (λ k. (cell_of p k).candidate.element) inv.2 (omega (arith, l, inv.1, c.requires.before_in_bounds)) c.put_start.ensures,
+      nodes-turn (asks_from p c.args.own_near) (λ k. (cell_of p k).candidate.element) inv.2 (omega (arith, l, inv.1, c.requires.before_in_bounds)) c.put_start.ensures,
     )
 
 pub shape_of-starts : goal.shape_of-starts

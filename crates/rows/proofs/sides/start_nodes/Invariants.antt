@@ -1,13 +1,10 @@
 -- What the loop of `rows::sides::start_nodes` keeps.
-use mathlib.Core.Path.{◌≡◌, refl, ◌∙◌}
+use mathlib.Core.Path.{◌≡◌}
 use Prim.Native.Nat.{◌-◌, ◌≤◌}
-use native.Mathlib.Omega.{arith}
 use lib.ListN.{length}
 use Rattle.journal.specs.Row.{cell_of}
 use Rattle.journal.specs.Record.{read_row}
 use Rattle.rows.specs.inner.Sides.{SideNodes, asks_from}
-use Rattle.rows.proofs.Records.{stands_at}
-use Rattle.rows.proofs.Nodes.{nodes-none, nodes-turn, nodes-done}
 use Rattle.rows.proofs.sides.start_nodes.Given as goal
 
 abbrev pub invariant-loop-j : goal.invariant-loop-j

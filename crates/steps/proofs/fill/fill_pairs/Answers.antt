@@ -1,8 +1,5 @@
 -- `steps::fill::fill_pairs` meets its contract.
 use native.Mathlib.Omega.{arith}
-use Prim.Native.Nat.{◌≤◌, ◌-◌, ◌/◌, ◌%◌}
-use Rattle.journal.specs.Record.{read_row}
-use Rattle.steps.specs.inner.Tables.{step_tables, pair_by_table, Holds}
 use Rattle.steps.proofs.Records.{pair-below, pair-narrow}
 use Rattle.steps.proofs.Tables.{holds-none, holds-turn, holds-done}
 use Rattle.steps.proofs.fill.fill_pairs.Goals as goal

@@ -1,10 +1,7 @@
 -- What the loop of `steps::fill::fill_pairs` keeps.
-use native.Mathlib.Omega.{arith}
 use Prim.Native.Nat.{◌≤◌, ◌-◌, ◌/◌, ◌%◌}
 use Rattle.journal.specs.Record.{read_row}
 use Rattle.steps.specs.inner.Tables.{step_tables, pair_by_table, Holds}
-use Rattle.steps.proofs.Records.{pair-below, pair-narrow}
-use Rattle.steps.proofs.Tables.{holds-none, holds-turn, holds-done}
 use Rattle.steps.proofs.fill.fill_pairs.Given as goal
 
 abbrev pub invariant-loop-k : goal.invariant-loop-k

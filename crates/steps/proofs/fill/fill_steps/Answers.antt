@@ -1,7 +1,6 @@
 -- `steps::fill::fill_steps` meets its contract.
 use mathlib.Core.Path.{◌∙◌}
 use native.Mathlib.Omega.{arith}
-use borrow.Author.Rules.{rules}
 use Rattle.transition.specs.inner.Track.{track_in}
 use Rattle.transition.proofs.Held.{routes-many}
 use Rattle.steps.proofs.Routes.{table-holds}
@@ -17,7 +16,7 @@ find_routes-requires c =
 
 pub fill_pairs-requires : goal.fill_pairs-requires
 fill_pairs-requires c =
-    let long = c.find_routes.auto.1.1.1.1.1.0 ∙ routes-many c.no_routes-found.ensures in
+    let long = c.find_routes.auto.found ∙ routes-many c.no_routes-found.ensures in
     record {
       element_lists = c.requires.track_fits.places;
       two_records = c.requires.two_records;

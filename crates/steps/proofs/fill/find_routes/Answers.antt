@@ -1,6 +1,5 @@
 -- `steps::fill::find_routes` meets its contract.
 use native.Mathlib.Omega.{arith}
-use borrow.Author.Rules.{rules}
 use Rattle.journal.specs.Record.{read_row}
 use Rattle.steps.proofs.Records.{own-some}
 use Rattle.steps.proofs.Routes.{own-record, previous-known, elements-known, routes-gathered}
@@ -21,7 +20,7 @@ pair_routes-requires c =
       sound_graph = c.requires.sound_graph;
       record_known = previous-known t before;
       each = elements-known t c.candidates_at-fix.ensures.2;
-      fact_4 = (omega (arith, before, t.few-before), c.candidates_at-fix.ensures.0, c.requires.in_bounds);
+      sizes = (omega (arith, before, t.few-before), c.candidates_at-fix.ensures.0, c.requires.in_bounds);
     }
 
 pub returns : goal.returns

@@ -1,12 +1,10 @@
 -- `steps::fill::pair_step` meets its contract.
 use mathlib.Core.Path.{sym, ◌∙◌}
-use borrow.Author.Tests.{not-true, not-false}
-use borrow.Author.Rules.{rules}
 use Rattle.steps.proofs.Records.{own-some, own-stands, pair-stands, routes-inside, pair-none, pair-some}
 use Rattle.steps.proofs.fill.pair_step.Goals as goal
 
 pub returns-then-not-is_finite : goal.returns-then-not-is_finite
-returns-then-not-is_finite c = pair-none _ _ _ _ _ c.score_of.result c.score_of.ensures (sym c.is_finite.ensures ∙ not-true _ c.if-not-is_finite.true)
+returns-then-not-is_finite c = pair-none _ _ _ _ _ c.score_of.result c.score_of.ensures (sym c.is_finite.ensures ∙ c.if-not-is_finite.true)
 
 pub candidate_of-b-requires : goal.candidate_of-b-requires
 candidate_of-b-requires c = own-stands _ _ _ c.requires.two_records _ c.requires.fact_3.0
@@ -28,6 +26,6 @@ compute_log_transition-requires c =
     }
 
 pub returns : goal.returns
-returns c = pair-some _ _ _ _ _ c.score_of.result c.score_of.ensures (sym c.is_finite.ensures ∙ not-false _ c.if-not-is_finite.false) _ _ _ _
+returns c = pair-some _ _ _ _ _ c.score_of.result c.score_of.ensures (sym c.is_finite.ensures ∙ c.if-not-is_finite.false) _ _ _ _
     c.candidate_of-a.ensures c.candidate_of-b.ensures c.distance_at-distance.ensures
     (c.compute_log_transition.ensures ∙ rw (c.routes_at-routes.ensures, c.candidate_count-count.ensures))

@@ -1,5 +1,4 @@
 -- `steps::fill::put_step` meets its contract.
-use borrow.Author.Rules.{rules}
 use Rattle.steps.specs.inner.Tables.{put_step}
 use Rattle.steps.proofs.fill.put_step.Goals as goal
 

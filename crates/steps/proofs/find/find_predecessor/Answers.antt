@@ -2,7 +2,6 @@
 use native.Mathlib.Omega.{arith}
 use mathlib.Core.Path.{sym}
 use lib.Seq.{length-take-le}
-use borrow.Author.Rules.{rules}
 use Rattle.steps.proofs.Earlier.{row-standing, row_inside, row-some, row_small, row-not, row-linked}
 use Rattle.steps.proofs.find.find_predecessor.Goals as goal
 

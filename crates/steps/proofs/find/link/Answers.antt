@@ -1,5 +1,4 @@
 -- `steps::find::link` meets its contract.
-use borrow.Author.Rules.{rules}
 use Rattle.steps.proofs.find.link.Goals as goal
 
 pub returns-in-At : goal.returns-in-At

@@ -1,7 +1,6 @@
 -- `steps::record::distance_at` meets its contract.
 use native.Mathlib.Omega.{arith}
 use mathlib.Core.Path.{◌∙◌}
-use borrow.Author.Rules.{rules}
 use Rattle.journal.specs.Record.{record_length}
 use Rattle.steps.proofs.Records.{pair-room, pair-distance}
 use Rattle.steps.proofs.record.distance_at.Goals as goal

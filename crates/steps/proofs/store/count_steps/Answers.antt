@@ -1,11 +1,10 @@
 -- `steps::store::count_steps` meets its contract.
-use mathlib.Core.Path.{◌≡◌, sym, ap, ◌∙◌}
-use mathlib.Core.Logic.{⊎_elim}
-use Prim.Native.Nat.{◌≤◌, ◌-◌}
+use mathlib.Core.Path.{sym, ap, ◌∙◌}
 use native.Mathlib.Omega.{arith}
 use Rattle.steps.specs.inner.Tables.{possible_count}
 use Rattle.steps.proofs.Tables.{count_none, count_yes, count_no}
 use Rattle.steps.proofs.store.count_steps.Goals as goal
+use Rattle.steps.proofs.store.count_steps.Goals.{then-possible-k, else-possible-k}
 
 pub loop-k-init : goal.loop-k-init
 loop-k-init c = (omega arith, omega arith, sym (count_none _))
@@ -23,7 +22,7 @@ pub loop-k-smaller : goal.loop-k-smaller
 loop-k-smaller c = omega arith
 
 pub loop-k-preserved : goal.loop-k-preserved
-loop-k-preserved c = ⊎_elim (λ w. (omega arith, omega arith, w.1 ∙ count_yes _ _ _ c.loop-k.invariant.2 w.0.taken)) (λ w. (omega arith, omega arith, w.1 ∙ count_no _ _ _ c.loop-k.invariant.2 w.0.left)) c.if-possible-k.branch
+loop-k-preserved c = elim c.if-possible-k.branch [ then-possible-k w ↦ (omega arith, omega arith, w.listed-is ∙ count_yes _ _ _ c.loop-k.invariant.2 w.if-possible-k.true) | else-possible-k w ↦ (omega arith, omega arith, w.listed-is ∙ count_no _ _ _ c.loop-k.invariant.2 w.if-possible-k.false) ]
 
 pub returns : goal.returns
 returns c = c.loop-k.invariant.2 ∙ ap (possible_count _) (omega arith)

@@ -1,10 +1,7 @@
 -- What the loop of `steps::store::count_steps` keeps.
-use mathlib.Core.Path.{◌≡◌, sym, ap, ◌∙◌}
-use mathlib.Core.Logic.{⊎_elim}
+use mathlib.Core.Path.{◌≡◌}
 use Prim.Native.Nat.{◌≤◌, ◌-◌}
-use native.Mathlib.Omega.{arith}
 use Rattle.steps.specs.inner.Tables.{possible_count}
-use Rattle.steps.proofs.Tables.{count_none, count_yes, count_no}
 use Rattle.steps.proofs.store.count_steps.Given as goal
 
 abbrev pub invariant-loop-k : goal.invariant-loop-k

@@ -1,12 +1,9 @@
 -- `steps::store::put_entries` meets its contract.
 use native.Mathlib.Omega.{arith}
-use mathlib.Core.Path.{◌≡◌, refl, ◌∙◌}
-use Prim.Native.Nat.{◌≤◌, ◌-◌}
+use mathlib.Core.Path.{refl, ◌∙◌}
 use native.Mathlib.Nat.{mod-le, div-le_self}
-use lib.ListN.{length}
-use Rattle.steps.specs.Listing.{step_buffers_of}
-use Rattle.steps.specs.inner.Tables.{step_tables, step_at}
-use Rattle.steps.proofs.Buffers.{Stored, stored-none, stored-room, stored-turn, stored-done}
+use Rattle.steps.specs.inner.Tables.{step_tables}
+use Rattle.steps.proofs.Buffers.{stored-none, stored-room, stored-turn, stored-done}
 use Rattle.steps.proofs.store.put_entries.Goals as goal
 
 pub loop-k-init : goal.loop-k-init

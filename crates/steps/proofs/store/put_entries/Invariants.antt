@@ -1,12 +1,10 @@
 -- What the loop of `steps::store::put_entries` keeps.
-use native.Mathlib.Omega.{arith}
-use mathlib.Core.Path.{◌≡◌, refl, ◌∙◌}
+use mathlib.Core.Path.{◌≡◌}
 use Prim.Native.Nat.{◌≤◌, ◌-◌}
-use native.Mathlib.Nat.{mod-le, div-le_self}
 use lib.ListN.{length}
 use Rattle.steps.specs.Listing.{step_buffers_of}
 use Rattle.steps.specs.inner.Tables.{step_tables, step_at}
-use Rattle.steps.proofs.Buffers.{Stored, stored-none, stored-room, stored-turn, stored-done}
+use Rattle.steps.proofs.Buffers.{Stored}
 use Rattle.steps.proofs.store.put_entries.Given as goal
 
 abbrev pub invariant-loop-k : goal.invariant-loop-k

@@ -2,7 +2,6 @@
 use native.Mathlib.Omega.{arith}
 use mathlib.Core.Path.{refl, sym}
 use native.Mathlib.Nat.{add-zero}
-use borrow.Author.Rules.{rules}
 use Rattle.steps.specs.inner.Tables.{put_entries}
 use Rattle.steps.proofs.Buffers.{room-one}
 use Rattle.steps.proofs.store.put_entry.Goals as goal

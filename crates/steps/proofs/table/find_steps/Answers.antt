@@ -1,7 +1,6 @@
 -- `steps::table::find_steps` meets its contract.
 use native.Mathlib.Omega.{arith}
 use mathlib.Core.Path.{sym, ◌∙◌}
-use borrow.Author.Rules.{rules}
 use Rattle.network.specs.Network.{network_of}
 use Rattle.transition.specs.Step.{transition}
 use Rattle.steps.proofs.Listing.{row-refused, row-alone, row-accepted, row-joined, row-linked}
@@ -49,6 +48,6 @@ returns-in-Alone c = let found = sym c.check_row-found.ensures ∙ c.in-Alone.is
 
 pub returns-in-Linked : goal.returns-in-Linked
 returns-in-Linked c = let a = c.args in
-    let net = network_of a.lengths.now a.headings.now a.flags.now a.from.now a.to.now a.from-side.now a.to-side.now a.forward.now a.backward.now a.window-counts.now a.window-firsts.now a.window-lasts.now in
+    let net = network_of a.lengths.now a.headings.now a.flags.now a.from.now a.to.now a.from_side.now a.to_side.now a.forward.now a.backward.now a.window_counts.now a.window_firsts.now a.window_lasts.now in
     let linked = sym c.check_row-found.ensures ∙ c.in-Linked.is in
     (c.steps_between.ensures.0, λ room. parts-listed (transition net a.settings) _ a.row a.journal.now _ _ room (c.steps_between.ensures.1 room) ∙ sym (row-linked _ _ _ _ _ _ _ linked room))

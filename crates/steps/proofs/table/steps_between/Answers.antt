@@ -1,6 +1,5 @@
 -- `steps::table::steps_between` meets its contract.
 use mathlib.Core.Path.{refl, ap, ◌∙◌}
-use borrow.Author.Rules.{rules}
 use Rattle.network.specs.Network.{network_of}
 use Rattle.network.proofs.Accepted.{accepted-counts, accepted-relations, accepted-windows}
 use Rattle.journal.specs.Record.{read_row}
@@ -39,10 +38,10 @@ fill_steps-requires c =
 
 pub returns : goal.returns
 returns c = let a = c.args in
-    let net = network_of a.lengths.now a.headings.now a.flags.now a.from.now a.to.now a.from-side.now a.to-side.now a.forward.now a.backward.now a.window-counts.now a.window-firsts.now a.window-lasts.now in
+    let net = network_of a.lengths.now a.headings.now a.flags.now a.from.now a.to.now a.from_side.now a.to_side.now a.forward.now a.backward.now a.window_counts.now a.window_firsts.now a.window_lasts.now in
     let same = ap (λ (t : Track). step_on t a.settings) (track-same _ _ c.compile_network.ensures) ∙ ap (transition net a.settings) c.minute_of.ensures in
     let count = c.candidate_count-count.ensures in
     let many = pairs-many _ c.candidate_count.ensures c.distance_count-n.ensures.fact_1 in (
       record { wide = c.fill_steps.ensures.wide; few = pairs-few _ _ _ c.requires.two_records _ _ count many; some = second-some _ _ _ many },
-      between-listed (transition net a.settings (read_row a.own.now).minute) a.predecessor-row _ a.row _ _ _ _ same many count c.fill_steps.ensures,
+      between-listed (transition net a.settings (read_row a.own.now).minute) a.predecessor_row _ a.row _ _ _ _ same many count c.fill_steps.ensures,
     )

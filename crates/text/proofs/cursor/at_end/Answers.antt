@@ -1,6 +1,5 @@
 -- `text::cursor::at_end` meets its contract.
 use Rattle.text.specs.inner.Cursor.{at_end}
-use borrow.Author.Rules.{rules}
 use Rattle.text.proofs.cursor.at_end.Goals as goal
 
 pub returns : goal.returns

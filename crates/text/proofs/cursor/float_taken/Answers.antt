@@ -1,6 +1,5 @@
 -- `text::cursor::float_taken` meets its contract.
 use lib.Ieee.{of_bits}
-use borrow.Author.Rules.{rules}
 use Rattle.text.proofs.cursor.float_taken.Goals as goal
 
 pub returns-in-Value : goal.returns-in-Value

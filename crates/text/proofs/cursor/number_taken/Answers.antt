@@ -1,5 +1,4 @@
 -- `text::cursor::number_taken` meets its contract.
-use borrow.Author.Rules.{rules}
 use Rattle.text.proofs.cursor.number_taken.Goals as goal
 
 pub returns-in-Value : goal.returns-in-Value

@@ -1,5 +1,4 @@
 -- `text::cursor::take_count` meets its contract.
-use borrow.Author.Rules.{rules}
 use borrow.Author.Tests.{le-leb, lt-leb}
 use Rattle.text.specs.inner.Cursor.{take_count}
 use Rattle.text.proofs.cursor.take_count.Goals as goal

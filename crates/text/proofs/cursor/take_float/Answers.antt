@@ -3,7 +3,6 @@ use Rattle.text.specs.inner.Floats.{float_of}
 use Rattle.text.specs.inner.Cursor.{float_taken, take_float}
 use Rattle.text.proofs.Reading.{in-turn}
 use lib.Ieee.{of_bits}
-use borrow.Author.Rules.{rules}
 use Rattle.text.proofs.cursor.take_float.Goals as goal
 
 pub returns-then-c : goal.returns-then-c

@@ -2,7 +2,6 @@
 use Rattle.text.specs.inner.Numbers.{hex_word_of}
 use Rattle.text.specs.inner.Cursor.{number_taken, take_hex_word}
 use Rattle.text.proofs.Reading.{in-turn}
-use borrow.Author.Rules.{rules}
 use Rattle.text.proofs.cursor.take_hex_word.Goals as goal
 
 pub returns-then-c : goal.returns-then-c

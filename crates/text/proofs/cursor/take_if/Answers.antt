@@ -1,7 +1,6 @@
 -- `text::cursor::take_if` meets its contract.
 use mathlib.Core.Path.{sym, ◌∙◌}
 use Rattle.text.specs.inner.Cursor.{take_if}
-use borrow.Author.Rules.{rules}
 use Rattle.text.proofs.cursor.take_if.Goals as goal
 
 pub returns-then-c : goal.returns-then-c

@@ -1,6 +1,5 @@
 -- `text::cursor::take_keyword` meets its contract.
 use Rattle.text.specs.inner.Cursor.{take_keyword}
-use borrow.Author.Rules.{rules}
 use Rattle.text.proofs.cursor.take_keyword.Goals as goal
 
 pub returns-then-c : goal.returns-then-c

@@ -1,6 +1,5 @@
 -- `text::cursor::take_slice` meets its contract.
 use Rattle.text.specs.inner.Cursor.{take_slice}
-use borrow.Author.Rules.{rules}
 use Rattle.text.proofs.cursor.take_slice.Goals as goal
 
 pub returns-then-c : goal.returns-then-c

@@ -1,6 +1,5 @@
 -- `text::cursor::word_bytes` meets its contract.
 use Rattle.text.proofs.Words.{bytes-none, bytes-some}
-use borrow.Author.Rules.{rules}
 use Rattle.text.proofs.cursor.word_bytes.Goals as goal
 
 pub returns-then-end-first : goal.returns-then-end-first

@@ -1,6 +1,5 @@
 -- `text::float::first_byte` meets its contract.
 use Rattle.text.proofs.Floats.{first_past}
-use borrow.Author.Rules.{rules}
 use Rattle.text.proofs.float.first_byte.Goals as goal
 
 pub returns-then-word-eq0 : goal.returns-then-word-eq0

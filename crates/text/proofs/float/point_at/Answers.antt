@@ -1,11 +1,7 @@
 -- `text::float::point_at` meets its contract.
 use native.Mathlib.Nat.{zero-add}
-use borrow.Author.Rules.{rules}
 use native.Mathlib.Omega.{arith}
-use Prim.Native.Nat.{◌+◌, ◌-◌, ◌≤◌}
-use mathlib.Core.Path.{◌≡◌, sym, ◌∙◌}
-use lib.ListN.{length, drop}
-use Rattle.text.specs.inner.Floats.{point}
+use mathlib.Core.Path.{sym, ◌∙◌}
 use Rattle.text.proofs.Floats.{point-past, point-stop, point-turn}
 use Rattle.text.proofs.float.point_at.Goals as goal
 

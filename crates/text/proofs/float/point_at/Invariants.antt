@@ -1,12 +1,8 @@
 -- What the loop of `text::float::point_at` keeps.
-use native.Mathlib.Nat.{zero-add}
-use borrow.Author.Rules.{rules}
-use native.Mathlib.Omega.{arith}
 use Prim.Native.Nat.{◌+◌, ◌-◌, ◌≤◌}
-use mathlib.Core.Path.{◌≡◌, sym, ◌∙◌}
+use mathlib.Core.Path.{◌≡◌}
 use lib.ListN.{length, drop}
 use Rattle.text.specs.inner.Floats.{point}
-use Rattle.text.proofs.Floats.{point-past, point-stop, point-turn}
 use Rattle.text.proofs.float.point_at.Given as goal
 
 abbrev pub invariant-loop-k : goal.invariant-loop-k

@@ -4,8 +4,8 @@ use Prim.Native.Nat.{◌*◌}
 use mathlib.Core.Path.{ap}
 use Rattle.text.proofs.Floats.{ten-exact}
 use native.Mathlib.Omega.{arith}
-use Prim.Native.Nat.{◌^◌, ◌-◌, ◌≤◌}
-use mathlib.Core.Path.{◌≡◌, refl, ◌∙◌}
+use Prim.Native.Nat.{◌^◌}
+use mathlib.Core.Path.{refl, ◌∙◌}
 use native.Mathlib.Nat.{pow-suc}
 use Rattle.text.proofs.float.power_of_ten.Goals as goal
 

@@ -1,12 +1,6 @@
 -- What the loop of `text::float::power_of_ten` keeps.
-use native.Mathlib.Numerals.{add-one}
-use Prim.Native.Nat.{◌*◌}
-use mathlib.Core.Path.{ap}
-use Rattle.text.proofs.Floats.{ten-exact}
-use native.Mathlib.Omega.{arith}
 use Prim.Native.Nat.{◌^◌, ◌-◌, ◌≤◌}
-use mathlib.Core.Path.{◌≡◌, refl, ◌∙◌}
-use native.Mathlib.Nat.{pow-suc}
+use mathlib.Core.Path.{◌≡◌}
 use Rattle.text.proofs.float.power_of_ten.Given as goal
 
 abbrev pub invariant-loop : goal.invariant-loop

@@ -4,7 +4,6 @@ use mathlib.Core.Path.{ap}
 use Rattle.binary64.proofs.Sum.{round-neg}
 use native.Mathlib.Omega.{arith}
 use Rattle.text.proofs.Floats.{ten-exact, divided, whole-counts}
-use borrow.Author.Rules.{rules}
 use Rattle.text.proofs.float.quotient.Goals as goal
 
 pub int_to_float-q : goal.int_to_float-q

@@ -2,7 +2,6 @@
 use mathlib.Core.Path.{ap}
 use Rattle.text.specs.declared.float.Float64.TheVariants.{Value}
 use Rattle.journal.proofs.Stores.{take_rest}
-use borrow.Author.Rules.{rules}
 use native.Mathlib.Omega.{arith}
 use mathlib.Core.Path.{sym, ◌∙◌}
 use lib.Seq.{length-take-le}

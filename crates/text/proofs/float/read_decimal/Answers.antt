@@ -1,6 +1,5 @@
 -- `text::float::read_decimal` meets its contract.
 use lib.Seq.{length-take-le}
-use borrow.Author.Rules.{rules}
 use native.Mathlib.Omega.{arith}
 use mathlib.Core.Path.{sym}
 use Rattle.text.proofs.Floats.{point-le, decimal-empty, decimal-pointed, decimal-long, decimal-front-bad, decimal-behind-bad, decimal-good}

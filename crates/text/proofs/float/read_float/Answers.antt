@@ -1,7 +1,6 @@
 -- `text::float::read_float` meets its contract.
 use mathlib.Core.Path.{sym, ap, ◌∙◌}
 use Rattle.text.specs.inner.Floats.{float_of, first_readable, signed_of}
-use borrow.Author.Rules.{rules}
 use Rattle.text.proofs.float.read_float.Goals as goal
 
 pub returns-in-Value : goal.returns-in-Value

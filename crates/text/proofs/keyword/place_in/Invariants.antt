@@ -1,14 +1,9 @@
 -- What the loop of `text::keyword::place_in` keeps.
-use borrow.Author.Rules.{rules}
-use native.Mathlib.Omega.{arith}
 use Prim.Native.Nat.{◌+◌, ◌-◌, ◌≤◌}
-use native.Mathlib.Nat.{zero-add, sub-zero}
-use mathlib.Core.Path.{◌≡◌, sym, ◌∙◌}
+use mathlib.Core.Path.{◌≡◌}
 use lib.ListN.{length}
 use Rattle.text.specs.inner.Words.{all_words, words_from}
 use Rattle.text.specs.inner.Keywords.{place_in}
-use Rattle.text.proofs.Words.{IsWord, is_word}
-use Rattle.text.proofs.Keywords.{place_end, place-past, place_found, place-turn}
 use Rattle.text.proofs.keyword.place_in.Given as goal
 
 abbrev pub invariant-loop-at : goal.invariant-loop-at

@@ -1,12 +1,9 @@
 -- What the loop of `text::list::read_candidates` keeps.
-use borrow.Author.Rules.{rules}
-use native.Mathlib.Omega.{arith}
 use Prim.Native.Nat.{◌-◌, ◌≤◌}
-use mathlib.Core.Path.{◌≡◌, refl, ◌∙◌}
+use mathlib.Core.Path.{◌≡◌}
 use lib.ListN.{length}
 use Rattle.lists.specs.Loops.{up_to}
-use Rattle.lists.proofs.Loops.{up_to-none, up_to-turn, up_to-done}
-use Rattle.text.specs.inner.Lists.{candidates_read_of, candidate, read_candidates}
+use Rattle.text.specs.inner.Lists.{candidates_read_of, candidate}
 use Rattle.text.proofs.list.read_candidates.Given as goal
 
 abbrev pub invariant-loop-k : goal.invariant-loop-k

@@ -1,15 +1,8 @@
 -- `text::list::read_distances` meets its contract.
-use borrow.Author.Rules.{rules}
 use native.Mathlib.Omega.{arith}
-use Prim.Native.Nat.{◌-◌, ◌≤◌}
-use mathlib.Core.Path.{◌≡◌, refl, ap, ◌∙◌}
-use mathlib.Core.List.{List}
-use lib.ListN.{length}
-use lib.Ieee.{Float}
-use Rattle.lists.specs.Loops.{up_to}
+use mathlib.Core.Path.{refl, ap, ◌∙◌}
 use Rattle.lists.proofs.Loops.{up_to-none, up_to-turn, up_to-done}
-use Rattle.text.specs.inner.Lists.{float_into, read_distances}
-use Rattle.text.specs.declared.cursor.Cursor.{Cursor}
+use Rattle.text.specs.inner.Lists.{read_distances}
 use Rattle.text.proofs.Lists.{paired}
 use Rattle.text.proofs.list.read_distances.Goals as goal
 
@@ -23,7 +16,7 @@ pub loop-k-smaller : goal.loop-k-smaller
 loop-k-smaller c = omega arith
 
 pub loop-k-preserved : goal.loop-k-preserved
-loop-k-preserved c = (omega arith, c.float_into-cursor.auto.1.1.1.0 ∙ c.loop-k.invariant.1, up_to-turn c.loop-k.k _ _ (paired c.float_into-cursor.ensures) c.loop-k.invariant.2)
+loop-k-preserved c = (omega arith, c.float_into-cursor.auto.floats ∙ c.loop-k.invariant.1, up_to-turn c.loop-k.k _ _ (paired (c.float_into-cursor.ensures.value, c.float_into-cursor.ensures.floats_after)) c.loop-k.invariant.2)
 
 pub shape_of-distances : goal.shape_of-distances
 shape_of-distances c = c.loop-k.invariant.1

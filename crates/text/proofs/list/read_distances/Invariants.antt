@@ -1,16 +1,12 @@
 -- What the loop of `text::list::read_distances` keeps.
-use borrow.Author.Rules.{rules}
-use native.Mathlib.Omega.{arith}
 use Prim.Native.Nat.{◌-◌, ◌≤◌}
-use mathlib.Core.Path.{◌≡◌, refl, ap, ◌∙◌}
+use mathlib.Core.Path.{◌≡◌}
 use mathlib.Core.List.{List}
 use lib.ListN.{length}
 use lib.Ieee.{Float}
 use Rattle.lists.specs.Loops.{up_to}
-use Rattle.lists.proofs.Loops.{up_to-none, up_to-turn, up_to-done}
-use Rattle.text.specs.inner.Lists.{float_into, read_distances}
+use Rattle.text.specs.inner.Lists.{float_into}
 use Rattle.text.specs.declared.cursor.Cursor.{Cursor}
-use Rattle.text.proofs.Lists.{paired}
 use Rattle.text.proofs.list.read_distances.Given as goal
 
 abbrev pub invariant-loop-k : goal.invariant-loop-k

@@ -1,12 +1,8 @@
 -- `text::list::read_elements` meets its contract.
-use borrow.Author.Rules.{rules}
 use native.Mathlib.Omega.{arith}
-use Prim.Native.Nat.{◌-◌, ◌≤◌}
-use mathlib.Core.Path.{◌≡◌, refl, ◌∙◌}
-use lib.ListN.{length}
-use Rattle.lists.specs.Loops.{up_to}
+use mathlib.Core.Path.{refl, ◌∙◌}
 use Rattle.lists.proofs.Loops.{up_to-none, up_to-turn, up_to-done}
-use Rattle.text.specs.inner.Lists.{elements_read_of, element, read_elements}
+use Rattle.text.specs.inner.Lists.{read_elements}
 use Rattle.text.proofs.list.read_elements.Goals as goal
 
 pub loop-k-init : goal.loop-k-init
@@ -19,7 +15,7 @@ pub loop-k-smaller : goal.loop-k-smaller
 loop-k-smaller c = omega arith
 
 pub loop-k-preserved : goal.loop-k-preserved
-loop-k-preserved c = (omega arith, c.read_element-cursor.auto.1.1.1.0 ∙ c.loop-k.invariant.1, c.read_element-cursor.auto.1.1.1.1.0 ∙ c.loop-k.invariant.2, c.read_element-cursor.auto.1.1.1.1.1.0 ∙ c.loop-k.invariant.3, up_to-turn c.loop-k.k _ _ c.read_element-cursor.ensures c.loop-k.invariant.4)
+loop-k-preserved c = (omega arith, c.read_element-cursor.auto.lengths ∙ c.loop-k.invariant.1, c.read_element-cursor.auto.headings ∙ c.loop-k.invariant.2, c.read_element-cursor.auto.flags ∙ c.loop-k.invariant.3, up_to-turn c.loop-k.k _ _ c.read_element-cursor.ensures c.loop-k.invariant.4)
 
 pub shape_of-lengths : goal.shape_of-lengths
 shape_of-lengths c = c.loop-k.invariant.1

@@ -1,12 +1,8 @@
 -- `text::list::read_relations` meets its contract.
-use borrow.Author.Rules.{rules}
 use native.Mathlib.Omega.{arith}
-use Prim.Native.Nat.{◌-◌, ◌≤◌}
-use mathlib.Core.Path.{◌≡◌, refl, ◌∙◌}
-use lib.ListN.{length}
-use Rattle.lists.specs.Loops.{up_to}
+use mathlib.Core.Path.{refl, ◌∙◌}
 use Rattle.lists.proofs.Loops.{up_to-none, up_to-turn, up_to-done}
-use Rattle.text.specs.inner.Lists.{relations_read_of, relation, read_relations}
+use Rattle.text.specs.inner.Lists.{read_relations}
 use Rattle.text.proofs.list.read_relations.Goals as goal
 
 pub loop-k-init : goal.loop-k-init
@@ -19,7 +15,7 @@ pub loop-k-smaller : goal.loop-k-smaller
 loop-k-smaller c = omega arith
 
 pub loop-k-preserved : goal.loop-k-preserved
-loop-k-preserved c = (omega arith, c.read_relation-cursor.auto.1.1.1.0 ∙ c.loop-k.invariant.1, c.read_relation-cursor.auto.1.1.1.1.0 ∙ c.loop-k.invariant.2, c.read_relation-cursor.auto.1.1.1.1.1.0 ∙ c.loop-k.invariant.3, c.read_relation-cursor.auto.1.1.1.1.1.1.0 ∙ c.loop-k.invariant.4, c.read_relation-cursor.auto.1.1.1.1.1.1.1.0 ∙ c.loop-k.invariant.5, c.read_relation-cursor.auto.1.1.1.1.1.1.1.1.0 ∙ c.loop-k.invariant.6, up_to-turn c.loop-k.k _ _ c.read_relation-cursor.ensures c.loop-k.invariant.7)
+loop-k-preserved c = (omega arith, c.read_relation-cursor.auto.from ∙ c.loop-k.invariant.1, c.read_relation-cursor.auto.to ∙ c.loop-k.invariant.2, c.read_relation-cursor.auto.from_side ∙ c.loop-k.invariant.3, c.read_relation-cursor.auto.to_side ∙ c.loop-k.invariant.4, c.read_relation-cursor.auto.forward ∙ c.loop-k.invariant.5, c.read_relation-cursor.auto.backward ∙ c.loop-k.invariant.6, up_to-turn c.loop-k.k _ _ c.read_relation-cursor.ensures c.loop-k.invariant.7)
 
 pub shape_of-from : goal.shape_of-from
 shape_of-from c = c.loop-k.invariant.1

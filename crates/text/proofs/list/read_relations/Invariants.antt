@@ -1,12 +1,9 @@
 -- What the loop of `text::list::read_relations` keeps.
-use borrow.Author.Rules.{rules}
-use native.Mathlib.Omega.{arith}
 use Prim.Native.Nat.{◌-◌, ◌≤◌}
-use mathlib.Core.Path.{◌≡◌, refl, ◌∙◌}
+use mathlib.Core.Path.{◌≡◌}
 use lib.ListN.{length}
 use Rattle.lists.specs.Loops.{up_to}
-use Rattle.lists.proofs.Loops.{up_to-none, up_to-turn, up_to-done}
-use Rattle.text.specs.inner.Lists.{relations_read_of, relation, read_relations}
+use Rattle.text.specs.inner.Lists.{relations_read_of, relation}
 use Rattle.text.proofs.list.read_relations.Given as goal
 
 abbrev pub invariant-loop-k : goal.invariant-loop-k

@@ -1,12 +1,8 @@
 -- `text::list::read_segments` meets its contract.
-use borrow.Author.Rules.{rules}
 use native.Mathlib.Omega.{arith}
-use Prim.Native.Nat.{◌-◌, ◌≤◌}
-use mathlib.Core.Path.{◌≡◌, refl, ◌∙◌}
-use lib.ListN.{length}
-use Rattle.lists.specs.Loops.{up_to}
+use mathlib.Core.Path.{refl, ◌∙◌}
 use Rattle.lists.proofs.Loops.{up_to-none, up_to-turn, up_to-done}
-use Rattle.text.specs.inner.Lists.{segments_read_of, segment, read_segments}
+use Rattle.text.specs.inner.Lists.{read_segments}
 use Rattle.text.proofs.list.read_segments.Goals as goal
 
 pub loop-k-init : goal.loop-k-init
@@ -19,7 +15,7 @@ pub loop-k-smaller : goal.loop-k-smaller
 loop-k-smaller c = omega arith
 
 pub loop-k-preserved : goal.loop-k-preserved
-loop-k-preserved c = (omega arith, c.read_segment-cursor.auto.1.1.1.0 ∙ c.loop-k.invariant.1, c.read_segment-cursor.auto.1.1.1.1.0 ∙ c.loop-k.invariant.2, c.read_segment-cursor.auto.1.1.1.1.1.0 ∙ c.loop-k.invariant.3, c.read_segment-cursor.auto.1.1.1.1.1.1.0 ∙ c.loop-k.invariant.4, c.read_segment-cursor.auto.1.1.1.1.1.1.1.0 ∙ c.loop-k.invariant.5, up_to-turn c.loop-k.k _ _ c.read_segment-cursor.ensures c.loop-k.invariant.6)
+loop-k-preserved c = (omega arith, c.read_segment-cursor.auto.elements ∙ c.loop-k.invariant.1, c.read_segment-cursor.auto.starts ∙ c.loop-k.invariant.2, c.read_segment-cursor.auto.ends ∙ c.loop-k.invariant.3, c.read_segment-cursor.auto.firsts ∙ c.loop-k.invariant.4, c.read_segment-cursor.auto.lasts ∙ c.loop-k.invariant.5, up_to-turn c.loop-k.k _ _ c.read_segment-cursor.ensures c.loop-k.invariant.6)
 
 pub shape_of-elements : goal.shape_of-elements
 shape_of-elements c = c.loop-k.invariant.1

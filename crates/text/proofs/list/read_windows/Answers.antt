@@ -1,12 +1,8 @@
 -- `text::list::read_windows` meets its contract.
-use borrow.Author.Rules.{rules}
 use native.Mathlib.Omega.{arith}
-use Prim.Native.Nat.{◌-◌, ◌≤◌}
-use mathlib.Core.Path.{◌≡◌, refl, ◌∙◌}
-use lib.ListN.{length}
-use Rattle.lists.specs.Loops.{up_to}
+use mathlib.Core.Path.{refl, ◌∙◌}
 use Rattle.lists.proofs.Loops.{up_to-none, up_to-turn, up_to-done}
-use Rattle.text.specs.inner.Lists.{windows_read_of, window, read_windows}
+use Rattle.text.specs.inner.Lists.{read_windows}
 use Rattle.text.proofs.list.read_windows.Goals as goal
 
 pub loop-k-init : goal.loop-k-init
@@ -19,7 +15,7 @@ pub loop-k-smaller : goal.loop-k-smaller
 loop-k-smaller c = omega arith
 
 pub loop-k-preserved : goal.loop-k-preserved
-loop-k-preserved c = (omega arith, c.read_window-cursor.auto.1.1.1.0 ∙ c.loop-k.invariant.1, c.read_window-cursor.auto.1.1.1.1.0 ∙ c.loop-k.invariant.2, up_to-turn c.loop-k.k _ _ c.read_window-cursor.ensures c.loop-k.invariant.3)
+loop-k-preserved c = (omega arith, c.read_window-cursor.auto.firsts ∙ c.loop-k.invariant.1, c.read_window-cursor.auto.lasts ∙ c.loop-k.invariant.2, up_to-turn c.loop-k.k _ _ c.read_window-cursor.ensures c.loop-k.invariant.3)
 
 pub shape_of-firsts : goal.shape_of-firsts
 shape_of-firsts c = c.loop-k.invariant.1

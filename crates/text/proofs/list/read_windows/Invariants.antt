@@ -1,12 +1,9 @@
 -- What the loop of `text::list::read_windows` keeps.
-use borrow.Author.Rules.{rules}
-use native.Mathlib.Omega.{arith}
 use Prim.Native.Nat.{◌-◌, ◌≤◌}
-use mathlib.Core.Path.{◌≡◌, refl, ◌∙◌}
+use mathlib.Core.Path.{◌≡◌}
 use lib.ListN.{length}
 use Rattle.lists.specs.Loops.{up_to}
-use Rattle.lists.proofs.Loops.{up_to-none, up_to-turn, up_to-done}
-use Rattle.text.specs.inner.Lists.{windows_read_of, window, read_windows}
+use Rattle.text.specs.inner.Lists.{windows_read_of, window}
 use Rattle.text.proofs.list.read_windows.Given as goal
 
 abbrev pub invariant-loop-k : goal.invariant-loop-k

@@ -1,5 +1,4 @@
 -- `text::number::figure` meets its contract.
-use borrow.Author.Rules.{rules}
 use Rattle.text.proofs.Numbers.{figure-below, figure-decimal, figure-between, figure-letter, figure-above}
 use Rattle.text.proofs.number.figure.Goals as goal
 

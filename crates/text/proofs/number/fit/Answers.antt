@@ -1,6 +1,5 @@
 -- `text::number::fit` meets its contract.
 use borrow.Author.Tests.{lt-ltb, le-ltb}
-use borrow.Author.Rules.{rules}
 use Rattle.text.proofs.number.fit.Goals as goal
 
 pub returns-then-n-lt4294967296 : goal.returns-then-n-lt4294967296

@@ -2,7 +2,6 @@
 use mathlib.Core.Path.{◌∙◌, ap}
 use Rattle.text.specs.inner.Numbers.{number_fitted, hex_word_of}
 use borrow.Author.Tests.{eq-eqb, ne_eqb}
-use borrow.Author.Rules.{rules}
 use Rattle.text.proofs.number.read_hex_word.Goals as goal
 
 pub returns-then-word-eq8 : goal.returns-then-word-eq8

@@ -2,7 +2,6 @@
 use mathlib.Core.Path.{◌∙◌, ap}
 use Rattle.text.specs.inner.Numbers.{number_fitted, number_of}
 use borrow.Author.Tests.{eq-eqb, ne_eqb}
-use borrow.Author.Rules.{rules}
 use Rattle.text.proofs.number.read_number.Goals as goal
 
 pub returns-then-word-eq0 : goal.returns-then-word-eq0

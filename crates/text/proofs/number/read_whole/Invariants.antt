@@ -1,11 +1,8 @@
 -- What the loop of `text::number::read_whole` keeps.
-use borrow.Author.Rules.{rules}
-use native.Mathlib.Omega.{arith}
-use Prim.Native.Nat.{◌+◌, ◌-◌, ◌*◌, ◌≤◌, ◌<◌}
-use mathlib.Core.Path.{◌≡◌, refl, sym, ◌∙◌}
+use Prim.Native.Nat.{◌-◌, ◌≤◌, ◌<◌}
+use mathlib.Core.Path.{◌≡◌}
 use lib.ListN.{length, drop}
 use Rattle.text.specs.inner.Numbers.{value_below}
-use Rattle.text.proofs.Numbers.{next-value, whole-past, whole-over, whole-other, whole-turn}
 use Rattle.text.proofs.number.read_whole.Given as goal
 
 abbrev pub invariant-loop-k : goal.invariant-loop-k

@@ -1,11 +1,7 @@
 -- `text::window::keep_rest` meets its contract.
-use borrow.Author.Rules.{rules}
 use native.Mathlib.Omega.{arith}
-use Prim.Native.Nat.{◌+◌, ◌-◌, ◌≤◌}
-use mathlib.Core.Path.{◌≡◌, refl}
-use mathlib.Core.List.{◌++◌}
-use lib.ListN.{length, take, drop, length-set}
-use Rattle.text.specs.inner.Window.{rest}
+use mathlib.Core.Path.{refl}
+use lib.ListN.{length-set}
 use Rattle.text.proofs.Windows.{rest-none, rest-turn, rest-moved}
 use Rattle.text.proofs.window.keep_rest.Goals as goal
 

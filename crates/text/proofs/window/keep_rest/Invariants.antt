@@ -1,12 +1,9 @@
 -- What the loop of `text::window::keep_rest` keeps.
-use borrow.Author.Rules.{rules}
-use native.Mathlib.Omega.{arith}
-use Prim.Native.Nat.{◌+◌, ◌-◌, ◌≤◌}
-use mathlib.Core.Path.{◌≡◌, refl}
+use Prim.Native.Nat.{◌-◌, ◌≤◌}
+use mathlib.Core.Path.{◌≡◌}
 use mathlib.Core.List.{◌++◌}
-use lib.ListN.{length, take, drop, length-set}
+use lib.ListN.{length, take, drop}
 use Rattle.text.specs.inner.Window.{rest}
-use Rattle.text.proofs.Windows.{rest-none, rest-turn, rest-moved}
 use Rattle.text.proofs.window.keep_rest.Given as goal
 
 abbrev pub invariant-loop-k : goal.invariant-loop-k

@@ -1,6 +1,5 @@
 -- `text::word::next_word` meets its contract.
 use Rattle.text.specs.inner.Words.{next_word}
-use borrow.Author.Rules.{rules}
 use Rattle.text.proofs.word.next_word.Goals as goal
 
 pub returns : goal.returns

@@ -1,5 +1,4 @@
 -- `text::word::passes` meets its contract.
-use borrow.Author.Rules.{rules}
 use Rattle.text.proofs.word.passes.Goals as goal
 
 pub returns-then-comment : goal.returns-then-comment

@@ -1,10 +1,6 @@
 -- `text::word::same_bytes` meets its contract.
-use borrow.Author.Rules.{rules}
 use native.Mathlib.Omega.{arith}
-use Prim.Native.Nat.{◌-◌, ◌≤◌}
-use mathlib.Core.Path.{◌≡◌, refl, sym, ◌∙◌}
-use lib.ListN.{length, drop}
-use Rattle.text.specs.inner.Bytes.{same}
+use mathlib.Core.Path.{refl, sym, ◌∙◌}
 use Rattle.text.proofs.Bytes.{same-long, same-past, same_stop, same_turn}
 use Rattle.text.proofs.word.same_bytes.Goals as goal
 

@@ -1,11 +1,8 @@
 -- What the loop of `text::word::same_bytes` keeps.
-use borrow.Author.Rules.{rules}
-use native.Mathlib.Omega.{arith}
 use Prim.Native.Nat.{◌-◌, ◌≤◌}
-use mathlib.Core.Path.{◌≡◌, refl, sym, ◌∙◌}
+use mathlib.Core.Path.{◌≡◌}
 use lib.ListN.{length, drop}
 use Rattle.text.specs.inner.Bytes.{same}
-use Rattle.text.proofs.Bytes.{same-long, same-past, same_stop, same_turn}
 use Rattle.text.proofs.word.same_bytes.Given as goal
 
 abbrev pub invariant-loop-k : goal.invariant-loop-k

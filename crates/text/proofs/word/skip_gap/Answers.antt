@@ -1,23 +1,16 @@
 -- `text::word::skip_gap` meets its contract.
-use borrow.Author.Tests.{not-true, not-false}
-use borrow.Author.Rules.{rules}
-use Prim.Native.Nat.{◌+◌, ◌-◌}
-use mathlib.Core.Path.{◌≡◌, refl, sym, ◌∙◌}
-use mathlib.Core.Bool.{false}
-use lib.ListN.{length, drop}
-use Rattle.text.specs.inner.Words.{gap}
+use mathlib.Core.Path.{refl, sym, ◌∙◌}
 use Rattle.text.proofs.Words.{gap-past, gap-stop, gap-turn}
-use Prim.Native.Nat.{◌+◌, ◌-◌}
 use Rattle.text.proofs.word.skip_gap.Goals as goal
 
 pub loop-i-init : goal.loop-i-init
 loop-i-init c = refl
 
 pub returns-then-not-passes : goal.returns-then-not-passes
-returns-then-not-passes c = sym (c.loop-i.invariant ∙ gap-stop _ _ _ c.loop-i-test.true (sym c.passes.ensures ∙ not-true _ c.if-not-passes.true))
+returns-then-not-passes c = sym (c.loop-i.invariant ∙ gap-stop _ _ _ c.loop-i-test.true (sym c.passes.ensures ∙ c.if-not-passes.true))
 
 pub loop-i-preserved : goal.loop-i-preserved
-loop-i-preserved c = c.loop-i.invariant ∙ gap-turn _ _ _ c.loop-i-test.true (sym c.passes.ensures ∙ not-false _ c.if-not-passes.false) ∙ rw c.commented-comment.ensures
+loop-i-preserved c = c.loop-i.invariant ∙ gap-turn _ _ _ c.loop-i-test.true (sym c.passes.ensures ∙ c.if-not-passes.false) ∙ rw c.commented-comment.ensures
 
 pub returns : goal.returns
 returns c = sym (c.loop-i.invariant ∙ gap-past _ _ _ c.loop-i-test.false)

@@ -1,12 +1,9 @@
 -- What the loop of `text::word::skip_gap` keeps.
-use borrow.Author.Tests.{not-true, not-false}
-use borrow.Author.Rules.{rules}
 use Prim.Native.Nat.{◌+◌, ◌-◌}
-use mathlib.Core.Path.{◌≡◌, refl, sym, ◌∙◌}
+use mathlib.Core.Path.{◌≡◌}
 use mathlib.Core.Bool.{false}
 use lib.ListN.{length, drop}
 use Rattle.text.specs.inner.Words.{gap}
-use Rattle.text.proofs.Words.{gap-past, gap-stop, gap-turn}
 use Prim.Native.Nat.{◌+◌, ◌-◌}
 use Rattle.text.proofs.word.skip_gap.Given as goal
 

@@ -1,11 +1,6 @@
 -- `text::word::skip_word` meets its contract.
-use borrow.Author.Rules.{rules}
-use Prim.Native.Nat.{◌+◌, ◌-◌}
-use mathlib.Core.Path.{◌≡◌, refl, sym, ◌∙◌}
-use lib.ListN.{length, drop}
-use Rattle.text.specs.inner.Words.{word_length}
+use mathlib.Core.Path.{refl, sym, ◌∙◌}
 use Rattle.text.proofs.Words.{run_past, run-stop, run-turn}
-use Prim.Native.Nat.{◌+◌, ◌-◌}
 use Rattle.text.proofs.word.skip_word.Goals as goal
 
 pub loop-i-init : goal.loop-i-init

@@ -1,10 +1,8 @@
 -- What the loop of `text::word::skip_word` keeps.
-use borrow.Author.Rules.{rules}
 use Prim.Native.Nat.{◌+◌, ◌-◌}
-use mathlib.Core.Path.{◌≡◌, refl, sym, ◌∙◌}
+use mathlib.Core.Path.{◌≡◌}
 use lib.ListN.{length, drop}
 use Rattle.text.specs.inner.Words.{word_length}
-use Rattle.text.proofs.Words.{run_past, run-stop, run-turn}
 use Prim.Native.Nat.{◌+◌, ◌-◌}
 use Rattle.text.proofs.word.skip_word.Given as goal
 

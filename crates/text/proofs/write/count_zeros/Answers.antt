@@ -1,11 +1,7 @@
 -- `text::write::count_zeros` meets its contract.
-use borrow.Author.Rules.{rules}
 use native.Mathlib.Omega.{arith}
-use Prim.Native.Nat.{◌+◌, ◌-◌, ◌≤◌}
 use native.Mathlib.Nat.{zero-add}
-use mathlib.Core.Path.{◌≡◌, sym, ◌∙◌}
-use lib.ListN.{length, drop}
-use Rattle.text.specs.inner.Written.{zeros}
+use mathlib.Core.Path.{sym, ◌∙◌}
 use Rattle.text.proofs.Written.{zeros-past, zeros-stop, zeros-turn}
 use Rattle.text.proofs.write.count_zeros.Goals as goal
 

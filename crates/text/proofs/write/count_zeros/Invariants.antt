@@ -1,12 +1,8 @@
 -- What the loop of `text::write::count_zeros` keeps.
-use borrow.Author.Rules.{rules}
-use native.Mathlib.Omega.{arith}
 use Prim.Native.Nat.{◌+◌, ◌-◌, ◌≤◌}
-use native.Mathlib.Nat.{zero-add}
-use mathlib.Core.Path.{◌≡◌, sym, ◌∙◌}
+use mathlib.Core.Path.{◌≡◌}
 use lib.ListN.{length, drop}
 use Rattle.text.specs.inner.Written.{zeros}
-use Rattle.text.proofs.Written.{zeros-past, zeros-stop, zeros-turn}
 use Rattle.text.proofs.write.count_zeros.Given as goal
 
 abbrev pub invariant-loop-k : goal.invariant-loop-k

@@ -1,10 +1,7 @@
 -- `text::write::fill_digits` meets its contract.
-use borrow.Author.Rules.{rules}
 use native.Mathlib.Omega.{arith}
-use Prim.Native.Nat.{◌-◌, ◌/◌, ◌^◌, ◌≤◌}
-use mathlib.Core.Path.{◌≡◌, refl}
-use lib.ListN.{length, drop, length-set}
-use Rattle.text.specs.inner.Written.{last_digits}
+use mathlib.Core.Path.{refl}
+use lib.ListN.{length-set}
 use Rattle.text.proofs.Written.{digits-none, digits-turn, digits-done, digit-small}
 use Rattle.text.proofs.write.fill_digits.Goals as goal
 

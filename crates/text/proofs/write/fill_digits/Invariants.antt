@@ -1,11 +1,8 @@
 -- What the loop of `text::write::fill_digits` keeps.
-use borrow.Author.Rules.{rules}
-use native.Mathlib.Omega.{arith}
 use Prim.Native.Nat.{◌-◌, ◌/◌, ◌^◌, ◌≤◌}
-use mathlib.Core.Path.{◌≡◌, refl}
-use lib.ListN.{length, drop, length-set}
+use mathlib.Core.Path.{◌≡◌}
+use lib.ListN.{length, drop}
 use Rattle.text.specs.inner.Written.{last_digits}
-use Rattle.text.proofs.Written.{digits-none, digits-turn, digits-done, digit-small}
 use Rattle.text.proofs.write.fill_digits.Given as goal
 
 abbrev pub invariant-loop-k : goal.invariant-loop-k

@@ -1,5 +1,4 @@
 -- `text::write::glyph` meets its contract.
-use borrow.Author.Rules.{rules}
 use borrow.Author.Tests.{lt-ltb, le-ltb}
 use Rattle.text.specs.inner.Written.{glyph}
 use Rattle.text.proofs.write.glyph.Goals as goal

@@ -1,10 +1,7 @@
 -- `text::write::put_bytes` meets its contract.
-use borrow.Author.Rules.{rules}
 use native.Mathlib.Omega.{arith}
-use Prim.Native.Nat.{◌-◌, ◌≤◌}
-use mathlib.Core.Path.{◌≡◌, refl, ◌∙◌}
-use lib.ListN.{length, take, length-set}
-use lib.Seq.{sets}
+use mathlib.Core.Path.{refl, ◌∙◌}
+use lib.ListN.{length-set}
 use Rattle.text.proofs.Written.{copied-turn, copied_all, no_room, room}
 use Rattle.text.proofs.write.put_bytes.Goals as goal
 

@@ -1,11 +1,8 @@
 -- What the loop of `text::write::put_bytes` keeps.
-use borrow.Author.Rules.{rules}
-use native.Mathlib.Omega.{arith}
 use Prim.Native.Nat.{◌-◌, ◌≤◌}
-use mathlib.Core.Path.{◌≡◌, refl, ◌∙◌}
-use lib.ListN.{length, take, length-set}
+use mathlib.Core.Path.{◌≡◌}
+use lib.ListN.{length, take}
 use lib.Seq.{sets}
-use Rattle.text.proofs.Written.{copied-turn, copied_all, no_room, room}
 use Rattle.text.proofs.write.put_bytes.Given as goal
 
 abbrev pub invariant-loop-k : goal.invariant-loop-k

@@ -1,18 +1,17 @@
 -- `text::write::put_number` meets its contract.
-use borrow.Author.Rules.{rules}
 use native.Mathlib.Omega.{arith}
 use Rattle.text.proofs.Written.{zeros-le, decimal-part}
 use Rattle.text.proofs.write.put_number.Goals as goal
 
 pub slice_bounds-put_bytes-count : goal.slice_bounds-put_bytes-count
-slice_bounds-put_bytes-count c = omega (arith, c.count_zeros-first.ensures, zeros-le c.fill_digits.new.0, c.fill_digits.auto.0)
+slice_bounds-put_bytes-count c = omega (arith, c.count_zeros-first.ensures, zeros-le c.fill_digits.new.out, c.fill_digits.auto.out)
 
 pub slice_bounds-put_bytes-start : goal.slice_bounds-put_bytes-start
-slice_bounds-put_bytes-start c = omega (arith, c.count_zeros-first.ensures, zeros-le c.fill_digits.new.0, c.fill_digits.auto.0)
+slice_bounds-put_bytes-start c = omega (arith, c.count_zeros-first.ensures, zeros-le c.fill_digits.new.out, c.fill_digits.auto.out)
 
 pub returns : goal.returns
 returns c =
     record {
-      value = (rw (decimal-part _ c.args.n _ c.fill_digits.ensures c.count_zeros-first.ensures) at c.put_bytes.ensures).0;
-      out_after = (rw (decimal-part _ c.args.n _ c.fill_digits.ensures c.count_zeros-first.ensures) at c.put_bytes.ensures).1;
+      value = rw (decimal-part _ c.args.n _ c.fill_digits.ensures c.count_zeros-first.ensures) at c.put_bytes.ensures.value;
+      out_after = rw (decimal-part _ c.args.n _ c.fill_digits.ensures c.count_zeros-first.ensures) at c.put_bytes.ensures.out_after;
     }

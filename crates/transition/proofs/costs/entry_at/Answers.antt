@@ -1,5 +1,4 @@
 -- `transition::costs::entry_at` meets its contract.
-use borrow.Author.Rules.{rules}
 use Rattle.transition.specs.inner.Costs.{route_entry}
 use Rattle.transition.proofs.costs.entry_at.Goals as goal
 

@@ -1,10 +1,7 @@
 -- `transition::costs::fill_routes` meets its contract.
-use mathlib.Core.Path.{refl, ◌∙◌, ◌≡◌}
-use Prim.Native.Nat.{◌-◌, ◌≤◌}
+use mathlib.Core.Path.{refl, ◌≡◌}
 use native.Mathlib.Omega.{arith}
 use lib.ListN.{length}
-use borrow.Author.Rules.{rules}
-use Rattle.network.specs.inner.Compiled.{graph_in}
 use Rattle.lists.specs.Loops.{up_to}
 use Rattle.transition.specs.inner.Costs.{rows_filled}
 use Rattle.transition.proofs.Held.{row_fits, rows-turn}
@@ -35,7 +32,7 @@ pub loop-r-smaller : goal.loop-r-smaller
 loop-r-smaller c = omega (arith, c.loop-r-test.true)
 
 pub loop-r-preserved : goal.loop-r-preserved
-loop-r-preserved c = (c.loop-r.invariant.0, omega (arith, c.loop-r-test.true), c.found-1.given ∙ c.loop-r.invariant.2, rows-turn _ _ _ c.loop-r.r _ c.loop-r.invariant.3 c.fill_row.ensures)
+loop-r-preserved c = (c.loop-r.invariant.0, omega (arith, c.loop-r-test.true), omega (arith, c.loop-r.invariant.2), rows-turn _ _ _ c.loop-r.r _ c.loop-r.invariant.3 c.fill_row.ensures)
 
 pub shape_of-found : goal.shape_of-found
 shape_of-found c = c.loop-r.invariant.2

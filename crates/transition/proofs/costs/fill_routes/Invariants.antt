@@ -1,13 +1,9 @@
 -- What the loop of `transition::costs::fill_routes` keeps.
-use mathlib.Core.Path.{refl, ◌∙◌, ◌≡◌}
+use mathlib.Core.Path.{◌≡◌}
 use Prim.Native.Nat.{◌-◌, ◌≤◌}
-use native.Mathlib.Omega.{arith}
 use lib.ListN.{length}
-use borrow.Author.Rules.{rules}
 use Rattle.network.specs.inner.Compiled.{graph_in}
-use Rattle.lists.specs.Loops.{up_to}
 use Rattle.transition.specs.inner.Costs.{rows_filled}
-use Rattle.transition.proofs.Held.{row_fits, rows-turn}
 use Rattle.transition.proofs.costs.fill_routes.Given as goal
 
 abbrev pub invariant-loop-r : goal.invariant-loop-r

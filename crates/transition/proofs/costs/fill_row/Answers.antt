@@ -1,5 +1,4 @@
 -- `transition::costs::fill_row` meets its contract.
-use borrow.Author.Rules.{rules}
 use native.Mathlib.Omega.{arith}
 use lib.ListN.{length}
 use Rattle.transition.proofs.Held.{part_length, row-filled, row-passed}

@@ -1,5 +1,4 @@
 -- `transition::costs::no_routes` meets its contract.
-use borrow.Author.Rules.{rules}
 use mathlib.Core.Path.{ap}
 use lib.ListN.{replicate}
 use Rattle.transition.specs.inner.Costs.{no_routes}

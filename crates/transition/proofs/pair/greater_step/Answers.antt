@@ -1,6 +1,5 @@
 -- `transition::pair::greater_step` meets its contract.
 use Rattle.transition.proofs.Cases.{greater-more, greater-not-more, greater_next, greater-best}
-use borrow.Author.Rules.{rules}
 use Rattle.transition.proofs.pair.greater_step.Goals as goal
 
 pub returns-then-u-v : goal.returns-then-u-v

@@ -1,6 +1,5 @@
 -- `transition::pair::pair_score` meets its contract.
 use Rattle.transition.proofs.Cases.{pair-none, pair-terms, pair-impossible}
-use borrow.Author.Rules.{rules}
 use Rattle.transition.proofs.pair.pair_score.Goals as goal
 
 pub partial_netelement_distance-requires : goal.partial_netelement_distance-requires

@@ -1,5 +1,4 @@
 -- `transition::routes::element_routes` meets its contract.
-use borrow.Author.Rules.{rules}
 use mathlib.Core.Path.{◌∙◌}
 use native.Mathlib.Omega.{arith}
 use Rattle.transition.proofs.Held.{element-held, start-unknown, goal-unknown}
