@@ -1,6 +1,7 @@
 // The lines of the input, one after the other.
 use crate::host::{Host, new_host, with_cursor};
 use crate::input::{Input, no_input, refill};
+use std::io::{self, Stdin};
 use text::cursor::{Cursor, at_end, refuse, take_keyword};
 use text::keyword::Keyword;
 use text::list::first_bytes;
@@ -19,11 +20,11 @@ pub struct Line {
 }
 
 // Before the first line.
-pub fn no_line() -> Line {
+pub fn no_line(stdin: Stdin) -> Line {
     Line {
         keyword: Keyword::Unknown,
         host: new_host(),
-        input: no_input(),
+        input: no_input(stdin),
         over: false,
     }
 }
@@ -69,23 +70,23 @@ fn first_word(text: &[u8], input: Input, h: Host) -> Line {
 }
 
 // The same line, with more of the input read behind what is left of the text where that is less than half.
-pub fn with_more(line: Line, text: &mut [u8]) -> Line {
+pub fn with_more(line: Line, text: &mut [u8]) -> io::Result<Line> {
     let h = line.host;
     let c = h.cursor;
-    let input = refill(text, line.input, c.at);
+    let input = refill(text, line.input, c.at)?;
     let host = moved(h, input.at);
     let mut r = line;
     r.host = host;
     r.input = input;
-    r
+    Ok(r)
 }
 
 // The next line, from where the last one ended, with room for the whole of it unless the input ends before. There is none behind a word that could
 // not be read.
-pub fn next_line(last: Line, text: &mut [u8]) -> Line {
-    let line = with_more(last, text);
+pub fn next_line(last: Line, text: &mut [u8]) -> io::Result<Line> {
+    let line = with_more(last, text)?;
     let input = line.input;
-    first_word(first_bytes(text, input.end), input, line.host)
+    Ok(first_word(first_bytes(text, input.end), input, line.host))
 }
 
 // The whole words that were read of the text so far.

@@ -3,6 +3,7 @@ use crate::host::with_cursor;
 use crate::line::{Line, with_host, with_more, words_of};
 use crate::memory::MOST_WORDS;
 use crate::parts::{lend_numbers, put_number, wide};
+use std::io;
 use text::cursor::{TakenNumber, take_count, take_hex_word};
 
 // How many words a `load` tells.
@@ -20,27 +21,32 @@ fn load_word(line: Line, text: &[u8], k: usize, journal: &mut [u32]) -> Line {
 }
 
 // A word for each entry.
-fn load_words(line: Line, text: &mut [u8], journal: &mut [u32]) -> Line {
+fn load_words(line: Line, text: &mut [u8], journal: &mut [u32]) -> io::Result<Line> {
     let mut r = line;
     for k in 0..journal.len() {
-        r = with_more(r, text);
+        r = with_more(r, text)?;
         r = load_word(r, text, k, journal);
     }
-    r
+    Ok(r)
 }
 
 // The journal is just the words of a `load` from now on, behind its count.
-pub fn load(line: Line, text: &mut [u8], count: TakenNumber, journal: &mut [u32]) -> Line {
+pub fn load(
+    line: Line,
+    text: &mut [u8],
+    count: TakenNumber,
+    journal: &mut [u32],
+) -> io::Result<Line> {
     let words = wide(count.value);
     let counted = with_host(line, with_cursor(line.host, count.cursor));
-    let r = load_words(counted, text, lend_numbers(journal, words));
+    let r = load_words(counted, text, lend_numbers(journal, words))?;
     let mut h = r.host;
     h.words = words;
-    with_host(r, h)
+    Ok(with_host(r, h))
 }
 
 // The same from behind the word `load`, with as many words as a journal of the case language has.
-pub fn answer_load(line: Line, text: &mut [u8], journal: &mut [u32]) -> Line {
+pub fn answer_load(line: Line, text: &mut [u8], journal: &mut [u32]) -> io::Result<Line> {
     let count = take_load(line, text, MOST_WORDS);
     load(line, text, count, journal)
 }

@@ -2,6 +2,7 @@
 use crate::held_network::{FLOATS, NUMBERS, NetworkFloats, NetworkNumbers};
 use crate::host::{Cuts, SLICES, WHOLE};
 use crate::print::{OUTPUT_BYTES, Output};
+use std::io::Stdout;
 
 // The most words that a journal has, so that 10,000 rows of 4 candidates fit, which take 65 words each.
 const JOURNAL_WORDS: usize = 700000;
@@ -26,6 +27,10 @@ pub fn new_cuts() -> Cuts {
     [WHOLE; SLICES]
 }
 
-pub fn new_output() -> Output {
-    [0u8; OUTPUT_BYTES]
+pub fn new_output(stdout: Stdout) -> Output {
+    Output {
+        bytes: [0u8; OUTPUT_BYTES],
+        stdout,
+        written: Ok(()),
+    }
 }

@@ -1,24 +1,43 @@
 // The output: bytes in a buffer that is written out when it is nearly full.
-use libc::STDOUT_FILENO;
+use std::io::{self, Stdout, Write};
 use text::cursor::Cursor;
 use text::list::first_bytes;
 use text::write::{put_bytes, put_float, put_hex_word, put_number};
 
 pub const OUTPUT_BYTES: usize = 65536;
 
-pub type Output = [u8; OUTPUT_BYTES];
+// The buffer, what it is written out to, and whether that succeeded so far: once a write has failed, there is no other.
+#[derive(Drop)]
+pub struct Output {
+    pub(crate) bytes: [u8; OUTPUT_BYTES],
+    pub(crate) stdout: Stdout,
+    pub(crate) written: io::Result<()>,
+}
 
 // Room for the longest word.
 const WORD: usize = 64;
 
 // The bytes up to a place are written out, and the next one goes to the front.
-pub fn flush(out: &Output, at: usize) -> usize {
-    io::write_all(STDOUT_FILENO, first_bytes(out, at));
+pub fn flush(out: &mut Output, at: usize) -> usize {
+    if is_written(out) {
+        out.written = out.stdout.write_all(first_bytes(&out.bytes, at));
+    }
     0
 }
 
+// Whether no write has failed.
+pub fn is_written(out: &Output) -> bool {
+    out.written.is_ok()
+}
+
+// The bytes up to a place are written out as the last ones.
+pub fn finish(out: &mut Output, at: usize) -> io::Result<()> {
+    flush(out, at);
+    out.written
+}
+
 // A place with room for a word.
-fn make_room(out: &Output, at: usize) -> usize {
+fn make_room(out: &mut Output, at: usize) -> usize {
     if at < OUTPUT_BYTES - WORD {
         return at;
     }
@@ -27,19 +46,19 @@ fn make_room(out: &Output, at: usize) -> usize {
 
 pub fn print_bytes(out: &mut Output, at: usize, bytes: &[u8]) -> usize {
     let start = make_room(out, at);
-    put_bytes(out, start, bytes)
+    put_bytes(&mut out.bytes, start, bytes)
 }
 
 // A number without a blank before it.
 pub fn print_digits(out: &mut Output, at: usize, n: u32) -> usize {
     let start = make_room(out, at);
-    put_number(out, start, n)
+    put_number(&mut out.bytes, start, n)
 }
 
 // A blank and a number.
 pub fn print_number(out: &mut Output, at: usize, n: u32) -> usize {
     let next = print_bytes(out, at, b" ");
-    put_number(out, next, n)
+    put_number(&mut out.bytes, next, n)
 }
 
 // A count, which is below 2^32.
@@ -53,7 +72,7 @@ pub fn print_count(out: &mut Output, at: usize, n: usize) -> usize {
 // A blank and a float's bits.
 pub fn print_float(out: &mut Output, at: usize, x: f64) -> usize {
     let next = print_bytes(out, at, b" ");
-    put_float(out, next, x)
+    put_float(&mut out.bytes, next, x)
 }
 
 pub fn end_line(out: &mut Output, at: usize) -> usize {
@@ -63,7 +82,7 @@ pub fn end_line(out: &mut Output, at: usize) -> usize {
 // A word of a journal on a line.
 pub fn print_journal_word(out: &mut Output, at: usize, word: u32) -> usize {
     let start = make_room(out, at);
-    let next = put_hex_word(out, start, word);
+    let next = put_hex_word(&mut out.bytes, start, word);
     end_line(out, next)
 }
 

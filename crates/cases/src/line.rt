@@ -15,6 +15,7 @@ use answers::replay::answer_replay;
 use answers::routes::{answer_route, answer_routes, answer_triple};
 use answers::row::answer_row;
 use answers::setup::{poke, read_minute, read_settings, read_short, set_windows};
+use std::io;
 use text::keyword::Keyword;
 use text::list::first_numbers;
 
@@ -111,7 +112,7 @@ pub fn answer(
     held_numbers: &mut HeldNumbers,
     held_intrinsics: &mut HeldIntrinsics,
     out: &mut Output,
-) -> Line {
+) -> io::Result<Line> {
     let keyword = line.keyword;
     match keyword {
         Keyword::Load => answer_load(line, text, journal),
@@ -127,7 +128,7 @@ pub fn answer(
                 held_intrinsics,
                 out,
             );
-            with_host(line, host)
+            Ok(with_host(line, host))
         }
     }
 }

@@ -8,8 +8,9 @@ mod line;
 mod lines;
 
 use answers::memory;
+use std::io;
 
-fn main() {
+fn main(rt: HostRuntime) -> io::Result<()> {
     let mut text = lines::new_text();
     let mut floats = memory::new_floats();
     let mut numbers = memory::new_numbers();
@@ -17,8 +18,9 @@ fn main() {
     let mut cuts = memory::new_cuts();
     let mut held_numbers = held::new_held_numbers();
     let mut held_intrinsics = held::new_held_intrinsics();
-    let mut out = memory::new_output();
+    let mut out = memory::new_output(rt.stdout());
     lines::run(
+        rt.stdin(),
         &mut text,
         &mut floats,
         &mut numbers,
@@ -27,5 +29,5 @@ fn main() {
         &mut held_numbers,
         &mut held_intrinsics,
         &mut out,
-    );
+    )
 }

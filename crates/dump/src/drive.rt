@@ -4,9 +4,10 @@ use answers::held_network::{NetworkFloats, NetworkNumbers, read_network};
 use answers::host::{Cuts, Host, with_cursor, with_out};
 use answers::line::{LINES, Line, next_line, no_line, words_of};
 use answers::memory::Journal;
-use answers::print::{Output, flush, print_error, print_refusal};
+use answers::print::{Output, finish, print_error, print_refusal};
 use answers::setup::{read_minute, read_settings, set_windows};
 use journal::call::{Answer, open};
+use std::io::{self, Stdin};
 use text::cursor::refuse;
 use text::keyword::Keyword;
 
@@ -61,19 +62,26 @@ fn perform(
     }
 }
 
-// Every line up to the input's end or a word that cannot be read, then the used words.
+// Every line up to the input's end or a word that cannot be read, then the used words. Where reading fails, only what was told before it.
 pub fn run(
+    stdin: Stdin,
     text: &mut Text,
     floats: &mut NetworkFloats,
     numbers: &mut NetworkNumbers,
     journal: &mut Journal,
     cuts: &mut Cuts,
     out: &mut Output,
-) {
+) -> io::Result<()> {
     open(journal);
-    let mut line = no_line();
+    let mut line = no_line(stdin);
     for _ in 0..LINES {
-        line = next_line(line, text);
+        match next_line(line, text) {
+            Ok(next) => line = next,
+            Err(e) => {
+                finish(out, line.host.out)?;
+                return Err(e);
+            }
+        }
         if line.over {
             break;
         }
@@ -82,5 +90,5 @@ pub fn run(
     }
     let h = list_words(line.host, journal, out);
     let end = print_error(out, h.out, h.cursor);
-    flush(out, end);
+    finish(out, end)
 }

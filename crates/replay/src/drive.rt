@@ -3,8 +3,9 @@ use crate::held::{MOST_WORDS, SHORT, refused, replay_long, replay_short, tell_no
 use answers::held_network::{NetworkFloats, NetworkNumbers, read_network};
 use answers::line::{Line, next_line, no_line, with_host, words_of};
 use answers::load::take_load;
-use answers::print::{Output, flush, print_error};
+use answers::print::{Output, finish, print_error};
 use answers::setup::{read_settings, set_windows};
+use std::io::{self, Stdin};
 use text::keyword::Keyword;
 
 // A stretch of the input: twice what a line may take.
@@ -43,17 +44,17 @@ fn lines(
     floats: &mut NetworkFloats,
     numbers: &mut NetworkNumbers,
     out: &mut Output,
-) -> Line {
+) -> io::Result<Line> {
     if last.over {
-        return last;
+        return Ok(last);
     }
     if 0 < k {
-        let half = lines(k - 1, last, text, floats, numbers, out);
+        let half = lines(k - 1, last, text, floats, numbers, out)?;
         return lines(k - 1, half, text, floats, numbers, out);
     }
-    let line = next_line(last, text);
+    let line = next_line(last, text)?;
     if line.over {
-        return tell_none(line, floats, numbers, out);
+        return Ok(tell_none(line, floats, numbers, out));
     }
     let keyword = line.keyword;
     match keyword {
@@ -64,19 +65,20 @@ fn lines(
             }
             replay_long(line, text, count, floats, numbers, out)
         }
-        _ => set_up(line, text, floats, numbers),
+        _ => Ok(set_up(line, text, floats, numbers)),
     }
 }
 
 // Every line up to the input's end or a word that cannot be read.
 pub fn run(
+    stdin: Stdin,
     text: &mut Text,
     floats: &mut NetworkFloats,
     numbers: &mut NetworkNumbers,
     out: &mut Output,
-) {
-    let line = lines(64, no_line(), text, floats, numbers, out);
+) -> io::Result<()> {
+    let line = lines(64, no_line(stdin), text, floats, numbers, out)?;
     let h = line.host;
     let end = print_error(out, h.out, h.cursor);
-    flush(out, end);
+    finish(out, end)
 }

@@ -5,6 +5,7 @@ use answers::load::load;
 use answers::memory::{new_cuts, new_journal};
 use answers::print::Output;
 use answers::replay::tell_replay;
+use std::io;
 use text::cursor::{TakenNumber, refuse};
 use text::list::first_numbers;
 
@@ -50,14 +51,14 @@ fn replay_in(
     numbers: &[u32],
     journal: &mut [u32],
     out: &mut Output,
-) -> Line {
-    let loaded = load(line, text, count, journal);
-    let last = next_line(loaded, text);
+) -> io::Result<Line> {
+    let loaded = load(line, text, count, journal)?;
+    let last = next_line(loaded, text)?;
     let h = last.host;
     if last.over {
-        return tell(last, floats, numbers, first_numbers(journal, h.words), out);
+        return Ok(tell(last, floats, numbers, first_numbers(journal, h.words), out));
     }
-    refused(last)
+    Ok(refused(last))
 }
 
 pub fn replay_short(
@@ -67,7 +68,7 @@ pub fn replay_short(
     floats: &[f64],
     numbers: &[u32],
     out: &mut Output,
-) -> Line {
+) -> io::Result<Line> {
     let mut journal = new_journal();
     replay_in(line, text, count, floats, numbers, &mut journal, out)
 }
@@ -79,7 +80,7 @@ pub fn replay_long(
     floats: &[f64],
     numbers: &[u32],
     out: &mut Output,
-) -> Line {
+) -> io::Result<Line> {
     let mut journal = new_long_journal();
     replay_in(line, text, count, floats, numbers, &mut journal, out)
 }

@@ -5,11 +5,12 @@ mod drive;
 mod held;
 
 use answers::memory;
+use std::io;
 
-fn main() {
+fn main(rt: HostRuntime) -> io::Result<()> {
     let mut text = drive::new_text();
     let mut floats = memory::new_floats();
     let mut numbers = memory::new_numbers();
-    let mut out = memory::new_output();
-    drive::run(&mut text, &mut floats, &mut numbers, &mut out);
+    let mut out = memory::new_output(rt.stdout());
+    drive::run(rt.stdin(), &mut text, &mut floats, &mut numbers, &mut out)
 }

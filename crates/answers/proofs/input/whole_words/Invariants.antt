@@ -1,7 +1,5 @@
--- What the loop of `answers::input::whole_words` keeps.
-use Prim.Native.Nat.{◌≤◌}
-use lib.ListN.{length}
-use native.Mathlib.Omega.{arith}
+-- What the loop of `answers::input::whole_words` keeps: the bytes that are left to look at are of the text, and fewer each time.
+use Rattle.std.proofs.Common.{◌≤◌, length}
 use Rattle.answers.proofs.input.whole_words.Given as goal
 
 abbrev pub invariant-loop-n : goal.invariant-loop-n
