@@ -1,8 +1,6 @@
 -- `groups::gather::gather_group` meets its contract.
 use mathlib.Core.Path.{sym, ◌∙◌}
-use mathlib.Core.Bool.{cond}
-use Prim.Native.Nat.{◌+◌}
-use Rattle.groups.proofs.Reading.{Going, going-begin, going-onward, going-turn, going_end, turn-less}
+use Rattle.groups.proofs.Reading.{going-begin, going-onward, going-turn, going_end, turn-less}
 use Rattle.groups.proofs.gather.gather_group.Goals as goal
 
 pub loop-g-init : goal.loop-g-init

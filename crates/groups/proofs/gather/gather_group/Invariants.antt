@@ -1,8 +1,7 @@
 -- What the loop of `groups::gather::gather_group` keeps.
-use mathlib.Core.Path.{sym, ◌∙◌}
 use mathlib.Core.Bool.{cond}
 use Prim.Native.Nat.{◌+◌}
-use Rattle.groups.proofs.Reading.{Going, going-begin, going-onward, going-turn, going_end, turn-less}
+use Rattle.groups.proofs.Reading.{Going}
 use Rattle.groups.proofs.gather.gather_group.Given as goal
 
 abbrev pub invariant-loop-g : goal.invariant-loop-g

@@ -1,5 +1,4 @@
 -- `groups::gather::gather_one` meets its contract.
-use borrow.Author.Rules.{rules}
 use native.Mathlib.Omega.{arith}
 use Rattle.journal.proofs.Stores.{take_rest}
 use Rattle.groups.proofs.Reading.{no-state, first-state, further-state, other-state, next-inside, next-stands, next-head, next-rows}

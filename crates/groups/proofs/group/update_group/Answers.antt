@@ -1,5 +1,4 @@
 -- `groups::group::update_group` meets its contract.
-use borrow.Author.Rules.{rules}
 use Rattle.groups.specs.Groups.{with_state}
 use Rattle.groups.proofs.group.update_group.Goals as goal
 

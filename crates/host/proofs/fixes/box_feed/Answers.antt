@@ -1,5 +1,4 @@
 -- `host::fixes::box_feed` meets its contract.
-use borrow.Author.Rules.{rules}
 use Rattle.host.proofs.fixes.box_feed.Goals as goal
 
 pub returns : goal.returns

@@ -1,5 +1,4 @@
 -- `host::fixes::box_predecessor` meets its contract.
-use borrow.Author.Rules.{rules}
 use Rattle.host.proofs.fixes.box_predecessor.Goals as goal
 
 pub returns : goal.returns

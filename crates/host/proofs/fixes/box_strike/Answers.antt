@@ -1,5 +1,4 @@
 -- `host::fixes::box_strike` meets its contract.
-use borrow.Author.Rules.{rules}
 use Rattle.host.proofs.fixes.box_strike.Goals as goal
 
 pub returns : goal.returns

@@ -1,5 +1,4 @@
 -- `host::path::box_close` meets its contract.
-use borrow.Author.Rules.{rules}
 use Rattle.host.proofs.path.box_close.Goals as goal
 
 pub returns : goal.returns

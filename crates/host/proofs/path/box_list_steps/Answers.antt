@@ -1,5 +1,4 @@
 -- `host::path::box_list_steps` meets its contract.
-use borrow.Author.Rules.{rules}
 use Rattle.host.proofs.path.box_list_steps.Goals as goal
 
 pub returns : goal.returns

@@ -1,5 +1,4 @@
 -- `host::path::box_read_row` meets its contract.
-use borrow.Author.Rules.{rules}
 use Rattle.host.proofs.path.box_read_row.Goals as goal
 
 pub returns : goal.returns

@@ -1,5 +1,4 @@
 -- `host::replay::box_replay` meets its contract.
-use borrow.Author.Rules.{rules}
 use Rattle.host.proofs.replay.box_replay.Goals as goal
 
 pub returns : goal.returns

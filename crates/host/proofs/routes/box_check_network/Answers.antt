@@ -1,5 +1,4 @@
 -- `host::routes::box_check_network` meets its contract.
-use borrow.Author.Rules.{rules}
 use Rattle.host.proofs.routes.box_check_network.Goals as goal
 
 pub returns : goal.returns

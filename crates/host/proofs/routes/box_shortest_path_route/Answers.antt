@@ -1,5 +1,4 @@
 -- `host::routes::box_shortest_path_route` meets its contract.
-use borrow.Author.Rules.{rules}
 use Rattle.host.proofs.routes.box_shortest_path_route.Goals as goal
 
 pub returns : goal.returns

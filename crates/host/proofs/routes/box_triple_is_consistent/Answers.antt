@@ -1,5 +1,4 @@
 -- `host::routes::box_triple_is_consistent` meets its contract.
-use borrow.Author.Rules.{rules}
 use Rattle.host.proofs.routes.box_triple_is_consistent.Goals as goal
 
 pub returns : goal.returns

@@ -1,5 +1,4 @@
 -- `segments::build::next` meets its contract.
-use borrow.Author.Rules.{rules}
 use native.Mathlib.Omega.{arith}
 use mathlib.Core.Path.{refl}
 use Rattle.segments.proofs.BuildTurns.{group-reached, group-turn, bridge-few, bridge-turn}

@@ -1,5 +1,4 @@
 -- `segments::opening::begin` meets its contract.
-use borrow.Author.Rules.{rules}
 use mathlib.Core.Path.{sym, ◌∙◌}
 use Rattle.segments.proofs.BuildOpening.{refusal-some, opened-network}
 use Rattle.segments.proofs.opening.begin.Goals as goal

@@ -1,5 +1,4 @@
 -- `segments::opening::begin_at` meets its contract.
-use borrow.Author.Rules.{rules}
 use native.Mathlib.Omega.{arith}
 use Rattle.journal.proofs.Stores.{take_rest}
 use Rattle.closing.proofs.Closing.{last-inside, last-stands, begin-reached}

@@ -1,5 +1,4 @@
 -- `segments::opening::begin_read` meets its contract.
-use borrow.Author.Rules.{rules}
 use native.Mathlib.Omega.{arith}
 use mathlib.Core.Path.{sym, ◌∙◌}
 use Rattle.network.proofs.Accepted.{accepted-counts}

@@ -1,5 +1,4 @@
 -- `segments::opening::nothing_left` meets its contract.
-use borrow.Author.Rules.{rules}
 use lib.Ieee.{of_bits}
 use Rattle.segments.specs.inner.Building.{refusing}
 use Rattle.segments.proofs.opening.nothing_left.Goals as goal

@@ -1,7 +1,6 @@
 -- `segments::oscillation::is_oscillation` meets its contract.
 use borrow.Author.Tests.{le-leb, lt-leb}
 use Rattle.segments.specs.inner.Oscillation.{is_oscillation}
-use borrow.Author.Rules.{rules}
 use Rattle.segments.proofs.oscillation.is_oscillation.Goals as goal
 
 pub returns-then-span-row_span : goal.returns-then-span-row_span

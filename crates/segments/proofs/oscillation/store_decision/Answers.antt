@@ -3,7 +3,6 @@ use native.Mathlib.Omega.{arith}
 use native.Mathlib.Numerals.{towards_suc}
 use lib.ListN.{length-set}
 use Rattle.segments.specs.inner.Oscillation.{stored_words}
-use borrow.Author.Rules.{rules}
 use Rattle.segments.proofs.oscillation.store_decision.Goals as goal
 
 pub bounds-decisions-at-2 : goal.bounds-decisions-at-2

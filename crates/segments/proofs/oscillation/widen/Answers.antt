@@ -1,7 +1,6 @@
 -- `segments::oscillation::widen` meets its contract.
 use borrow.Author.Tests.{ne_eqb}
 use Rattle.segments.specs.inner.Oscillation.{widened}
-use borrow.Author.Rules.{rules}
 use Rattle.segments.proofs.oscillation.widen.Goals as goal
 
 pub returns-then-gap-eq0 : goal.returns-then-gap-eq0

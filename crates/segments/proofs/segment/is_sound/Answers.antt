@@ -1,9 +1,8 @@
 -- `segments::segment::is_sound` meets its contract.
 use mathlib.Core.Path.{sym, ◌∙◌}
-use borrow.Author.Tests.{le-leb, lt-leb, not-true, not-false}
+use borrow.Author.Tests.{le-leb, lt-leb}
 use lib.Ieee.{of_bits}
 use Rattle.segments.specs.Segment.{segment_ok}
-use borrow.Author.Rules.{rules}
 use Rattle.segments.proofs.segment.is_sound.Goals as goal
 
 pub returns-then-not-in_range : goal.returns-then-not-in_range

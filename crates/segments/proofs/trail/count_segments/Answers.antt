@@ -1,9 +1,6 @@
 -- `segments::trail::count_segments` meets its contract.
 use native.Mathlib.Omega.{arith}
-use mathlib.Core.Bool.{cond}
-use Prim.Native.Nat.{suc}
-use Rattle.network.specs.Network.{network_of}
-use Rattle.segments.proofs.BuildGroups.{Counting, counting-begin, counting-turn, counting-end, counting-less}
+use Rattle.segments.proofs.BuildGroups.{counting-begin, counting-turn, counting-end, counting-less}
 use Rattle.segments.proofs.trail.count_segments.Goals as goal
 
 pub loop-t-init : goal.loop-t-init

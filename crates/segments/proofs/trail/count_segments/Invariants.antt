@@ -1,9 +1,8 @@
 -- What the loop of `segments::trail::count_segments` keeps.
-use native.Mathlib.Omega.{arith}
 use mathlib.Core.Bool.{cond}
 use Prim.Native.Nat.{suc}
 use Rattle.network.specs.Network.{network_of}
-use Rattle.segments.proofs.BuildGroups.{Counting, counting-begin, counting-turn, counting-end, counting-less}
+use Rattle.segments.proofs.BuildGroups.{Counting}
 use Rattle.segments.proofs.trail.count_segments.Given as goal
 
 abbrev pub invariant-loop-t : goal.invariant-loop-t

@@ -1,5 +1,4 @@
 -- `segments::trail::last_group` meets its contract.
-use borrow.Author.Rules.{rules}
 use Rattle.segments.proofs.BuildGroups.{begun-by}
 use Rattle.segments.proofs.trail.last_group.Goals as goal
 

@@ -1,5 +1,4 @@
 -- `segments::trail::previous_group` meets its contract.
-use borrow.Author.Rules.{rules}
 use Rattle.network.proofs.Accepted.{accepted-relations, accepted-windows, accepted-sound}
 use Rattle.bridges.proofs.Between.{insert-accepted}
 use Rattle.segments.proofs.BuildGroups.{stepped-on, stepped-off}

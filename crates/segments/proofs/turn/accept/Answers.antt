@@ -1,7 +1,6 @@
 -- `segments::turn::accept` meets its contract.
 use borrow.Author.Tests.{lt-ltb, le-ltb, not-true, not-false}
 use Rattle.segments.specs.inner.Turn.{accepted}
-use borrow.Author.Rules.{rules}
 use Rattle.segments.proofs.turn.accept.Goals as goal
 
 pub returns-then-read-stage : goal.returns-then-read-stage

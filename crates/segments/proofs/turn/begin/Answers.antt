@@ -1,6 +1,5 @@
 -- `segments::turn::begin` meets its contract.
 use Rattle.segments.specs.inner.Turn.{stage_begun}
-use borrow.Author.Rules.{rules}
 use Rattle.segments.proofs.turn.begin.Goals as goal
 
 pub returns : goal.returns

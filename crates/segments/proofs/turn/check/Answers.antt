@@ -1,6 +1,5 @@
 -- `segments::turn::check` meets its contract.
 use Rattle.segments.specs.inner.Turn.{segment_checked}
-use borrow.Author.Rules.{rules}
 use Rattle.segments.proofs.turn.check.Goals as goal
 
 pub returns-then-is_sound : goal.returns-then-is_sound

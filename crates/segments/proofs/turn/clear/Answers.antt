@@ -1,7 +1,6 @@
 -- `segments::turn::clear` meets its contract.
 use borrow.Author.Tests.{lt-ltb, le-ltb}
 use Rattle.segments.specs.inner.Turn.{cleared}
-use borrow.Author.Rules.{rules}
 use Rattle.segments.proofs.turn.clear.Goals as goal
 
 pub returns-then-write-stage : goal.returns-then-write-stage

@@ -1,6 +1,5 @@
 -- `segments::turn::join` meets its contract.
 use Rattle.segments.specs.inner.Turn.{gap_removed}
-use borrow.Author.Rules.{rules}
 use Rattle.segments.proofs.turn.join.Goals as goal
 
 pub returns : goal.returns

@@ -1,7 +1,6 @@
 -- `segments::turn::keep` meets its contract.
 use borrow.Author.Tests.{lt-ltb, le-ltb}
 use Rattle.segments.specs.inner.Turn.{current_kept}
-use borrow.Author.Rules.{rules}
 use Rattle.segments.proofs.turn.keep.Goals as goal
 
 pub returns-then-stage : goal.returns-then-stage

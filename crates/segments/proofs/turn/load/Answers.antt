@@ -1,6 +1,5 @@
 -- `segments::turn::load` meets its contract.
 use Rattle.segments.specs.inner.Turn.{loaded}
-use borrow.Author.Rules.{rules}
 use Rattle.segments.proofs.turn.load.Goals as goal
 
 pub returns : goal.returns

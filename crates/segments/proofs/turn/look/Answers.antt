@@ -1,7 +1,6 @@
 -- `segments::turn::look` meets its contract.
 use borrow.Author.Tests.{eq-eqb, ne_eqb}
 use Rattle.segments.specs.inner.Turn.{looked, looked_words}
-use borrow.Author.Rules.{rules}
 use Rattle.segments.proofs.turn.look.Goals as goal
 
 pub returns-then-segment-current : goal.returns-then-segment-current

@@ -1,6 +1,5 @@
 -- `segments::turn::see` meets its contract.
 use Rattle.segments.specs.inner.Turn.{seen}
-use borrow.Author.Rules.{rules}
 use Rattle.segments.proofs.turn.see.Goals as goal
 
 pub returns : goal.returns

@@ -1,7 +1,6 @@
 -- `segments::turn::seek_on` meets its contract.
 use borrow.Author.Tests.{lt-ltb, le-ltb, le-leb, lt-leb}
 use Rattle.segments.specs.inner.Turn.{sought}
-use borrow.Author.Rules.{rules}
 use Rattle.segments.proofs.turn.seek_on.Goals as goal
 
 pub returns-then-between-stage : goal.returns-then-between-stage

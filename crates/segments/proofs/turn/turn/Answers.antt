@@ -3,7 +3,6 @@ use mathlib.Core.Path.{sym, ◌∙◌}
 use native.Mathlib.Omega.{arith}
 use Rattle.segments.specs.inner.Turn.{Ready, turned}
 use Rattle.segments.proofs.Phases.{phased-else, turned-check, turned-load, turned-look, turned-keep, words-look, words-stay, ready-check, ready-load, ready-look, ready-keep}
-use borrow.Author.Rules.{rules}
 use Rattle.segments.proofs.turn.turn.Goals as goal
 
 pub check-requires : goal.check-requires
