@@ -122,7 +122,8 @@ fn distances_read(words: &[u32], at: usize, n: usize) -> bool
     requires { at + 2 * n ≤ length words.now }
     ensures { result ≡ every_below n (λ k. well_read float_words read_distance distance_ok (drop (at + 2 * k) words.now)) }
 {
-    if greatest_half(words, at, n) < 0x4170_0000 {
+    let small = greatest_half(words, at, n) < 0x4170_0000;
+    if small {
         return true;
     }
     each_distance_reads(words, at, n)

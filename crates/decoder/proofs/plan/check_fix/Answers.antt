@@ -38,8 +38,8 @@ returns-then-not-distances_ok c = planned-10-ranges c.args.known _ (given_of c.a
 pub returns-then-not-minute_ok : goal.returns-then-not-minute_ok
 returns-then-not-minute_ok c = planned-17 c.args.known _ (given_of c.args.minute c.args.elements.now c.args.intrinsics.now c.args.near.now c.args.raw_logs.now c.args.distances.now) _ _ _ _ c.requires (sym (counts_same _ _ _ _ _ _) ∙ sym c.counts_ok.ensures ∙ c.if-not-counts_ok.false) (ap (each (candidate_ok c.args.known)) (sym (candidates-same _ _ _ _ _ _)) ∙ sym c.candidates_ok.ensures ∙ c.if-not-candidates_ok.false) (sym c.rows_known.ensures ∙ c.if-not-rows_known.false) _ (c.before_of-p.ensures ∙ ap (λ (q : ℕ). before_of q (length c.args.elements.now)) c.candidates_of.ensures) (c.if-distances-distance_count.false ∙ c.distance_count.ensures.fact_1) (sym c.distances_ok.ensures ∙ c.if-not-distances_ok.false) (sym c.minute_ok.ensures ∙ c.if-not-minute_ok.true)
 
-pub returns-then-rows-ge65535 : goal.returns-then-rows-ge65535
-returns-then-rows-ge65535 c = planned-11 c.args.known _ (given_of c.args.minute c.args.elements.now c.args.intrinsics.now c.args.near.now c.args.raw_logs.now c.args.distances.now) _ _ _ _ c.requires (sym (counts_same _ _ _ _ _ _) ∙ sym c.counts_ok.ensures ∙ c.if-not-counts_ok.false) (ap (each (candidate_ok c.args.known)) (sym (candidates-same _ _ _ _ _ _)) ∙ sym c.candidates_ok.ensures ∙ c.if-not-candidates_ok.false) (sym c.rows_known.ensures ∙ c.if-not-rows_known.false) _ (c.before_of-p.ensures ∙ ap (λ (q : ℕ). before_of q (length c.args.elements.now)) c.candidates_of.ensures) (c.if-distances-distance_count.false ∙ c.distance_count.ensures.fact_1) (sym c.distances_ok.ensures ∙ c.if-not-distances_ok.false) (sym c.minute_ok.ensures ∙ c.if-not-minute_ok.false) c.if-rows-ge65535.true
+pub returns-then-full : goal.returns-then-full
+returns-then-full c = planned-11 c.args.known _ (given_of c.args.minute c.args.elements.now c.args.intrinsics.now c.args.near.now c.args.raw_logs.now c.args.distances.now) _ _ _ _ c.requires (sym (counts_same _ _ _ _ _ _) ∙ sym c.counts_ok.ensures ∙ c.if-not-counts_ok.false) (ap (each (candidate_ok c.args.known)) (sym (candidates-same _ _ _ _ _ _)) ∙ sym c.candidates_ok.ensures ∙ c.if-not-candidates_ok.false) (sym c.rows_known.ensures ∙ c.if-not-rows_known.false) _ (c.before_of-p.ensures ∙ ap (λ (q : ℕ). before_of q (length c.args.elements.now)) c.candidates_of.ensures) (c.if-distances-distance_count.false ∙ c.distance_count.ensures.fact_1) (sym c.distances_ok.ensures ∙ c.if-not-distances_ok.false) (sym c.minute_ok.ensures ∙ c.if-not-minute_ok.false) c.if-full.true
 
 pub record_length-length-requires : goal.record_length-length-requires
 record_length-length-requires c = (omega (arith, (counts (given_of c.args.minute c.args.elements.now c.args.intrinsics.now c.args.near.now c.args.raw_logs.now c.args.distances.now) (taken (sym (counts_same _ _ _ _ _ _) ∙ sym c.counts_ok.ensures ∙ c.if-not-counts_ok.false))).few), omega (arith, (c.before_of-p.ensures ∙ ap (λ (q : ℕ). before_of q (length c.args.elements.now)) c.candidates_of.ensures), planned-before c.args.known _ (given_of c.args.minute c.args.elements.now c.args.intrinsics.now c.args.near.now c.args.raw_logs.now c.args.distances.now) _ _ _ _ c.requires (length c.args.elements.now)))
@@ -48,7 +48,7 @@ pub overflow_add-end : goal.overflow_add-end
 overflow_add-end c = omega (arith, planned-end c.args.known _ (given_of c.args.minute c.args.elements.now c.args.intrinsics.now c.args.near.now c.args.raw_logs.now c.args.distances.now) _ _ _ _ c.requires, c.record_length-length.ensures.1)
 
 pub returns-then-journal-end : goal.returns-then-journal-end
-returns-then-journal-end c = planned-12 c.args.known _ (given_of c.args.minute c.args.elements.now c.args.intrinsics.now c.args.near.now c.args.raw_logs.now c.args.distances.now) _ _ _ _ c.requires (sym (counts_same _ _ _ _ _ _) ∙ sym c.counts_ok.ensures ∙ c.if-not-counts_ok.false) (ap (each (candidate_ok c.args.known)) (sym (candidates-same _ _ _ _ _ _)) ∙ sym c.candidates_ok.ensures ∙ c.if-not-candidates_ok.false) (sym c.rows_known.ensures ∙ c.if-not-rows_known.false) _ (c.before_of-p.ensures ∙ ap (λ (q : ℕ). before_of q (length c.args.elements.now)) c.candidates_of.ensures) (c.if-distances-distance_count.false ∙ c.distance_count.ensures.fact_1) (sym c.distances_ok.ensures ∙ c.if-not-distances_ok.false) (sym c.minute_ok.ensures ∙ c.if-not-minute_ok.false) c.if-rows-ge65535.false _ c.record_length-length.ensures.0 c.if-journal-end.true
+returns-then-journal-end c = planned-12 c.args.known _ (given_of c.args.minute c.args.elements.now c.args.intrinsics.now c.args.near.now c.args.raw_logs.now c.args.distances.now) _ _ _ _ c.requires (sym (counts_same _ _ _ _ _ _) ∙ sym c.counts_ok.ensures ∙ c.if-not-counts_ok.false) (ap (each (candidate_ok c.args.known)) (sym (candidates-same _ _ _ _ _ _)) ∙ sym c.candidates_ok.ensures ∙ c.if-not-candidates_ok.false) (sym c.rows_known.ensures ∙ c.if-not-rows_known.false) _ (c.before_of-p.ensures ∙ ap (λ (q : ℕ). before_of q (length c.args.elements.now)) c.candidates_of.ensures) (c.if-distances-distance_count.false ∙ c.distance_count.ensures.fact_1) (sym c.distances_ok.ensures ∙ c.if-not-distances_ok.false) (sym c.minute_ok.ensures ∙ c.if-not-minute_ok.false) c.if-full.false _ c.record_length-length.ensures.0 c.if-journal-end.true
 
 pub returns : goal.returns
-returns c = planned-fits c.args.known _ (given_of c.args.minute c.args.elements.now c.args.intrinsics.now c.args.near.now c.args.raw_logs.now c.args.distances.now) _ _ _ _ c.requires (sym (counts_same _ _ _ _ _ _) ∙ sym c.counts_ok.ensures ∙ c.if-not-counts_ok.false) (ap (each (candidate_ok c.args.known)) (sym (candidates-same _ _ _ _ _ _)) ∙ sym c.candidates_ok.ensures ∙ c.if-not-candidates_ok.false) (sym c.rows_known.ensures ∙ c.if-not-rows_known.false) _ (c.before_of-p.ensures ∙ ap (λ (q : ℕ). before_of q (length c.args.elements.now)) c.candidates_of.ensures) (c.if-distances-distance_count.false ∙ c.distance_count.ensures.fact_1) (sym c.distances_ok.ensures ∙ c.if-not-distances_ok.false) (sym c.minute_ok.ensures ∙ c.if-not-minute_ok.false) c.if-rows-ge65535.false _ c.record_length-length.ensures.0 c.if-journal-end.false
+returns c = planned-fits c.args.known _ (given_of c.args.minute c.args.elements.now c.args.intrinsics.now c.args.near.now c.args.raw_logs.now c.args.distances.now) _ _ _ _ c.requires (sym (counts_same _ _ _ _ _ _) ∙ sym c.counts_ok.ensures ∙ c.if-not-counts_ok.false) (ap (each (candidate_ok c.args.known)) (sym (candidates-same _ _ _ _ _ _)) ∙ sym c.candidates_ok.ensures ∙ c.if-not-candidates_ok.false) (sym c.rows_known.ensures ∙ c.if-not-rows_known.false) _ (c.before_of-p.ensures ∙ ap (λ (q : ℕ). before_of q (length c.args.elements.now)) c.candidates_of.ensures) (c.if-distances-distance_count.false ∙ c.distance_count.ensures.fact_1) (sym c.distances_ok.ensures ∙ c.if-not-distances_ok.false) (sym c.minute_ok.ensures ∙ c.if-not-minute_ok.false) c.if-full.false _ c.record_length-length.ensures.0 c.if-journal-end.false

@@ -8,9 +8,9 @@ pub returns-then-a-b : goal.returns-then-a-b
 unfolding consistent
 returns-then-a-b c = rw (eq-eqb _ _ c.if-a-b.true)
 
-pub returns-then-b-c : goal.returns-then-b-c
+pub returns-then-stays : goal.returns-then-stays
 unfolding consistent
-returns-then-b-c c = rw (ne_eqb _ _ c.if-a-b.false, eq-eqb _ _ c.if-b-c.true)
+returns-then-stays c = rw (ne_eqb _ _ c.if-a-b.false, eq-eqb _ _ c.if-stays.true)
 
 pub is_passed-requires : goal.is_passed-requires
 is_passed-requires c =
@@ -22,7 +22,7 @@ is_passed-requires c =
 
 pub returns-then-is_passed : goal.returns-then-is_passed
 unfolding consistent
-returns-then-is_passed c = rw (ne_eqb _ _ c.if-a-b.false, ne_eqb _ _ c.if-b-c.false, ← c.is_passed.ensures, c.if-is_passed.true)
+returns-then-is_passed c = rw (ne_eqb _ _ c.if-a-b.false, ne_eqb _ _ c.if-stays.false, ← c.is_passed.ensures, c.if-is_passed.true)
 
 pub is_passed-requires-2 : goal.is_passed-requires-2
 is_passed-requires-2 c =
@@ -34,4 +34,4 @@ is_passed-requires-2 c =
 
 pub returns : goal.returns
 unfolding consistent
-returns c = rw (ne_eqb _ _ c.if-a-b.false, ne_eqb _ _ c.if-b-c.false, ← c.is_passed.ensures, c.if-is_passed.false) c.is_passed-2.ensures
+returns c = rw (ne_eqb _ _ c.if-a-b.false, ne_eqb _ _ c.if-stays.false, ← c.is_passed.ensures, c.if-is_passed.false) c.is_passed-2.ensures

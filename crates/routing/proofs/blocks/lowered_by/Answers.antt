@@ -7,13 +7,13 @@ pub returns-then-cost-l : goal.returns-then-cost-l
 unfolding lowered
 returns-then-cost-l c = rw c.if-cost-l.true
 
-pub returns-then-i-l : goal.returns-then-i-l
+pub returns-then-comes_before : goal.returns-then-comes_before
 unfolding lowered
-returns-then-i-l c = rw (c.if-cost-l.false, c.if-cost-l-2.true, lt-ltb _ _ c.if-i-l.true)
+returns-then-comes_before c = rw (c.if-cost-l.false, c.if-cost-l-2.true, lt-ltb _ _ c.if-comes_before.true)
 
-pub returns-else-i-l : goal.returns-else-i-l
+pub returns-else-comes_before : goal.returns-else-comes_before
 unfolding lowered
-returns-else-i-l c = rw (c.if-cost-l.false, c.if-cost-l-2.true, le-ltb _ _ c.if-i-l.false)
+returns-else-comes_before c = rw (c.if-cost-l.false, c.if-cost-l-2.true, le-ltb _ _ c.if-comes_before.false)
 
 pub returns-else-cost-l-2 : goal.returns-else-cost-l-2
 unfolding lowered

@@ -48,16 +48,16 @@ relax_external-requires c =
       blocks = c.lower_state.ensures.blocks_2;
     }
 
-pub returns-then-s-eq0 : goal.returns-then-s-eq0
-returns-then-s-eq0 c =
+pub returns-then-even : goal.returns-then-even
+returns-then-even c =
     record {
-      marks_after = rw c.mark_state.ensures.marks_after (settled-even _ _ _ c.opposite_of.ensures c.lower_state.ensures.preds_after c.if-s-eq0.true (rw c.first_link.ensures at c.relax_external.ensures.preds_after));
+      marks_after = rw c.mark_state.ensures.marks_after (settled-even _ _ _ c.opposite_of.ensures c.lower_state.ensures.preds_after c.if-even.true (rw c.first_link.ensures at c.relax_external.ensures.preds_after));
       blocks_after = c.relax_external.ensures.blocks_after;
     }
 
-pub returns-else-s-eq0 : goal.returns-else-s-eq0
-returns-else-s-eq0 c =
+pub returns-else-even : goal.returns-else-even
+returns-else-even c =
     record {
-      marks_after = rw c.mark_state.ensures.marks_after (settled-odd _ _ _ c.opposite_of.ensures c.lower_state.ensures.preds_after c.if-s-eq0.false);
+      marks_after = rw c.mark_state.ensures.marks_after (settled-odd _ _ _ c.opposite_of.ensures c.lower_state.ensures.preds_after c.if-even.false);
       blocks_after = c.lower_state.ensures.blocks_2;
     }

@@ -7,19 +7,19 @@ use Rattle.rows.proofs.row.score_row.Goals as goal
 pub first_row-requires : goal.first_row-requires
 first_row-requires c = (c.requires.entries16, c.requires.scorable.parents-long, c.requires.scorable.scores-long)
 
-pub shape_of-parents-then-before-eq0 : goal.shape_of-parents-then-before-eq0
-shape_of-parents-then-before-eq0 c = c.parents-1.given
+pub shape_of-parents-then-first : goal.shape_of-parents-then-first
+shape_of-parents-then-first c = c.parents-1.given
 
-pub shape_of-scores-then-before-eq0 : goal.shape_of-scores-then-before-eq0
-shape_of-scores-then-before-eq0 c = c.scores-1.given
+pub shape_of-scores-then-first : goal.shape_of-scores-then-first
+shape_of-scores-then-first c = c.scores-1.given
 
-pub returns-then-before-eq0 : goal.returns-then-before-eq0
-returns-then-before-eq0 c = first-scored _ _ _ _ c.if-before-eq0.true c.first_row.ensures
+pub returns-then-first : goal.returns-then-first
+returns-then-first c = first-scored _ _ _ _ c.if-first.true c.first_row.ensures
 
 pub offers_row-possible-requires : goal.offers_row-possible-requires
 offers_row-possible-requires c =
     record {
-      bound = omega (arith, c.if-before-eq0.false);
+      bound = omega (arith, c.if-first.false);
       entries16 = c.requires.entries16;
       scorable = c.requires.scorable;
     }
@@ -31,11 +31,11 @@ pub shape_of-scores-then-possible : goal.shape_of-scores-then-possible
 shape_of-scores-then-possible c = c.scores-2-1.given
 
 pub returns-then-possible : goal.returns-then-possible
-returns-then-possible c = let if1 = c.if-before-eq0 in
+returns-then-possible c = let if1 = c.if-first in
     offers-scored _ _ _ _ if1.false (c.requires.scorable.predecessor (omega (arith, if1.false))).stands c.offers_row-possible.ensures c.if-possible.true
 
 pub best_previous-requires : goal.best_previous-requires
-best_previous-requires c = (c.requires.scorable.predecessor (omega (arith, c.if-before-eq0.false))).stands
+best_previous-requires c = (c.requires.scorable.predecessor (omega (arith, c.if-first.false))).stands
 
 pub broken_row-requires : goal.broken_row-requires
 broken_row-requires c = let offers-row = c.offers_row-possible in
@@ -48,7 +48,7 @@ pub shape_of-scores : goal.shape_of-scores
 shape_of-scores c = c.scores-3-1.given ∙ c.scores-2-1.given
 
 pub returns : goal.returns
-returns c = let if1 = c.if-before-eq0 in
+returns c = let if1 = c.if-first in
     let stands = (c.requires.scorable.predecessor (omega (arith, if1.false))).stands in
     let offered = c.offers_row-possible.ensures in
     let impossible = c.if-possible.false in

@@ -3,8 +3,8 @@ use mathlib.Core.Path.{sym, ◌∙◌}
 use Rattle.steps.proofs.Records.{own-some, own-stands, pair-stands, routes-inside, pair-none, pair-some}
 use Rattle.steps.proofs.fill.pair_step.Goals as goal
 
-pub returns-then-not-is_finite : goal.returns-then-not-is_finite
-returns-then-not-is_finite c = pair-none _ _ _ _ _ c.score_of.result c.score_of.ensures (sym c.is_finite.ensures ∙ c.if-not-is_finite.true)
+pub returns-then-not-scores : goal.returns-then-not-scores
+returns-then-not-scores c = pair-none _ _ _ _ _ c.score_of.result c.score_of.ensures (sym c.is_finite-scores.ensures ∙ c.if-not-scores.true)
 
 pub candidate_of-b-requires : goal.candidate_of-b-requires
 candidate_of-b-requires c = own-stands _ _ _ c.requires.two_records _ c.requires.fact_3.0
@@ -26,6 +26,6 @@ compute_log_transition-requires c =
     }
 
 pub returns : goal.returns
-returns c = pair-some _ _ _ _ _ c.score_of.result c.score_of.ensures (sym c.is_finite.ensures ∙ c.if-not-is_finite.false) _ _ _ _
+returns c = pair-some _ _ _ _ _ c.score_of.result c.score_of.ensures (sym c.is_finite-scores.ensures ∙ c.if-not-scores.false) _ _ _ _
     c.candidate_of-a.ensures c.candidate_of-b.ensures c.distance_at-distance.ensures
     (c.compute_log_transition.ensures ∙ rw (c.routes_at-routes.ensures, c.candidate_count-count.ensures))

@@ -2,8 +2,8 @@
 use Rattle.transition.proofs.Cases.{sum_below, sum-not-below}
 use Rattle.transition.proofs.pair.sum_of_terms.Goals as goal
 
-pub returns-then-score : goal.returns-then-score
-returns-then-score c = sum_below _ _ c.if-score.true
+pub returns-then-too_low : goal.returns-then-too_low
+returns-then-too_low c = sum_below _ _ c.if-too_low.true
 
-pub returns-else-score : goal.returns-else-score
-returns-else-score c = sum-not-below _ _ c.if-score.false
+pub returns-else-too_low : goal.returns-else-too_low
+returns-else-too_low c = sum-not-below _ _ c.if-too_low.false
