@@ -18,13 +18,13 @@ use Rattle.binary64.proofs.Order.{le→cross}
 use Rattle.binary64.proofs.Sum.{round-zero}
 
 -- ---- what `fits` says of a finite value
-record Held (f : Format) (m : ℕ) (e : ℤ) : Type 0 where
-  is_odd : m % 2 ≡ 1
-  digits : m < 2 ^ prec f
-  floor : down e ≤ 2 ^ low f
-  ceiling : m * up e < 2 ^ suc (emax f) * down e
+pub record Held (f : Format) (m : ℕ) (e : ℤ) : Type 0 where
+  pub is_odd : m % 2 ≡ 1
+  pub digits : m < 2 ^ prec f
+  pub floor : down e ≤ 2 ^ low f
+  pub ceiling : m * up e < 2 ^ suc (emax f) * down e
 
-held : (f : Format) (s : Bool) (m : ℕ) (e : ℤ) → T (fits f (fin s (suc m) e)) → Held f (suc m) e
+pub held : (f : Format) (s : Bool) (m : ℕ) (e : ℤ) → T (fits f (fin s (suc m) e)) → Held f (suc m) e
 unfolding fits
 held f s m e t =
     let a : Bool = eqb (suc m % 2) 1 in
@@ -142,7 +142,7 @@ pow-le-inv : (i j : ℕ) → 2 ^ i ≤ 2 ^ j → i ≤ j
 pow-le-inv i j h = le_of_suc-le-suc (lt_of_not-le (λ (g : suc j ≤ i). not-le_of_lt (pow-lt g) h))
 
 -- 2 ^ e is 2 ^ j times the smallest value
-exponent : (e : ℤ) (l : ℕ) → down e ≤ 2 ^ l → (j : ℕ) × (up e * 2 ^ l ≡ 2 ^ j * down e)
+pub exponent : (e : ℤ) (l : ℕ) → down e ≤ 2 ^ l → (j : ℕ) × (up e * 2 ^ l ≡ 2 ^ j * down e)
 exponent (pos a) l h = (a + l, sym (pow-add 2 a l) ∙ sym (mul-one (2 ^ (a + l))))
 exponent (negsuc a) l h = (l - suc a, one-mul (2 ^ l) ∙ ap (λ (x : ℕ). 2 ^ x) (sym (back l (suc a) (pow-le-inv (suc a) l h))) ∙ pow-add 2 (l - suc a) (suc a))
 
