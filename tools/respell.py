@@ -1,5 +1,5 @@
 #!/usr/bin/env python3
-"""Brings the repository's own definitions, lemmas and fields to snake case, once, after /opt/rattle/port/port.py.
+"""Brings the repository's own definitions, lemmas and fields to snake case, once, after the kit's port/port.py.
 
 usage: respell.py TOP
 
