@@ -1,7 +1,7 @@
 /* Box decides which track a train is on: it is fed one position fix at a time and tells the best path. Document 01
    says what each call computes; README.md has an overview, and examples/c/drive.c shows every step of a drive.
 
-   Link target/staticlib/libhost.a, which `examples/build archive` writes for x86-64, and -lm.
+   Link target/staticlib/libhost.a, which `examples/build archive` writes for x86-64.
 
    Answers. Each call answers a number of `enum box_status`. Checks run in number order over what the call takes, but
    for 16, which comes right after 5, and 17, right after 10; a call's comment has its refusals in that order. The first

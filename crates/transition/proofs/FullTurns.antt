@@ -15,6 +15,7 @@ use lib.Ieee.Positive.{num, den, den_pos}
 use lib.Ieee.Scale.{finite, round_same}
 use Rattle.std.proofs.lemmas.Nat.{mod-mul-add}
 use Rattle.binary64.specs.Values.{clear}
+use Rattle.network.specs.Network.{full_turn}
 use Rattle.binary64.proofs.Order.{taken, missed, not-le→lt}
 use Rattle.binary64.proofs.Same.{Held, held, exponent}
 use Rattle.transition.specs.Pair.{magnitude}
@@ -54,24 +55,21 @@ same-rest f n d n' d' t F D D' h e =
 
 -- ---- remainders by 360
 
-abbrev full : Float
-full = fin false 45 (pos 3)
-
-rem_of : (r : Float) → T (clear r) → T (finite r) → rem binary64 r full ≡ round binary64 false (num r % (360 * den r)) (den r)
+rem_of : (r : Float) → T (clear r) → T (finite r) → rem binary64 r full_turn ≡ round binary64 false (num r % (360 * den r)) (den r)
 rem_of r p q =
-    rem_is binary64 r full p q tt
+    rem_is binary64 r full_turn p q tt
     ∙ ap (λ (x : ℕ). round binary64 false (x % (360 * den r)) (den r * 1)) (mul-one (num r))
     ∙ ap (λ (x : ℕ). round binary64 false (num r % (360 * den r)) x) (mul-one (den r))
 
 rem-less : (r s : Float) (t : ℕ) → T (clear r) → T (finite r) → T (clear s) → T (finite s) → t * (360 * den r) ≤ num r
-    → num s * den r ≡ (num r - t * (360 * den r)) * den s → rem binary64 s full ≡ rem binary64 r full
+    → num s * den r ≡ (num r - t * (360 * den r)) * den s → rem binary64 s full_turn ≡ rem binary64 r full_turn
 rem-less r s t p q p' q' h e =
     rem_of s p' q'
     ∙ round_same binary64 false (num s % (360 * den s)) (den s) (num r % (360 * den r)) (den r) (den_pos s) (den_pos r)
     (same-rest 360 (num r) (den r) (num s) (den s) t (omega arith) (den_pos r) (den_pos s) h e)
     ∙ sym (rem_of r p q)
 
-rem-own : (r : Float) → T (clear r) → T (finite r) → T (fits binary64 r) → num r < 360 * den r → rem binary64 r full ≡ r
+rem-own : (r : Float) → T (clear r) → T (finite r) → T (fits binary64 r) → num r < 360 * den r → rem binary64 r full_turn ≡ r
 rem-own r p q g h =
     rem_of r p q
     ∙ ap (λ (x : ℕ). round binary64 false x (den r)) (mod-eq_of_lt h)
@@ -185,7 +183,7 @@ pub record Kept (x r : Float) (n : ℕ) : Type 0 where
   pub finite : T (finite r)
   pub held : T (fits binary64 r)
   pub small : num r < 45 * 2 ^ (n + 3) * den r
-  pub same : rem binary64 r full ≡ rem binary64 x full
+  pub same : rem binary64 r full_turn ≡ rem binary64 x full_turn
 
 nothing-below : (u b : ℕ) → 0 < b → 0 * u < b
 nothing-below u b h = omega arith
@@ -303,7 +301,7 @@ kept-more x r n h l =
       same = h.same;
     }
 
-pub kept-end : (x r : Float) → Kept x r 0 → r ≡ rem binary64 x full
+pub kept-end : (x r : Float) → Kept x r 0 → r ≡ rem binary64 x full_turn
 kept-end x r h = sym (rem-own r h.clear h.finite h.held (omega (arith, h.small))) ∙ h.same
 
 -- 45 * 2 ^ k, halved
@@ -337,13 +335,13 @@ plain (inf s) e p = absurd p
 plain (fin true m d) e p = absurd (true≢false (ap clear e))
 plain (fin false m d) e p = tt
 
-pub none-left : (x : Float) → finite x ≡ false → div binary64 (of_bits binary64 0) (of_bits binary64 0) ≡ rem binary64 x full
+pub none-left : (x : Float) → finite x ≡ false → div binary64 (of_bits binary64 0) (of_bits binary64 0) ≡ rem binary64 x full_turn
 unfolding div of_bits rem
 none-left nan e = refl
 none-left (inf s) e = refl
 none-left (fin s m d) e = absurd (true≢false e)
 
-pub own-left : (x : Float) → magnitude x ≡ x → finite x ≡ true → T (fits binary64 x) → lt x (of_bits binary64 0x4076_8000_0000_0000) ≡ true → x ≡ rem binary64 x full
+pub own-left : (x : Float) → magnitude x ≡ x → finite x ≡ true → T (fits binary64 x) → lt x (of_bits binary64 0x4076_8000_0000_0000) ≡ true → x ≡ rem binary64 x full_turn
 unfolding of_bits
 own-left x e p g l = sym (rem-own x (plain x e (taken p)) (taken p) g (under x 0 (plain x e (taken p)) (taken p) (taken l)))
 
@@ -378,5 +376,5 @@ module _ (x r turns : Float) (i : ℕ) (b : i < 1016) (q : turns ≡ fin false 4
     pub turned-more : le turns r ≡ false → Kept x r (1016 - (i + 1))
     turned-more l = after (kept-more x r (1015 - i) held-on (subst (λ (t : Float). T (not (le t r))) now (missed l)))
 
-pub turned-end : (x r : Float) (i : ℕ) → 1016 ≤ i → Kept x r (1016 - i) → r ≡ rem binary64 x full
+pub turned-end : (x r : Float) (i : ℕ) → 1016 ≤ i → Kept x r (1016 - i) → r ≡ rem binary64 x full_turn
 turned-end x r i b h = let e : 1016 - i ≡ 0 = omega arith in kept-end x r (subst (λ (k : ℕ). Kept x r k) e h)

@@ -8,7 +8,9 @@ use Rattle.closing.proofs.row.read_row.Goals as goal
 
 pub returns-then-rows-number : goal.returns-then-rows-number
 unfolding row_answer filled
-returns-then-rows-number c = let e = row-past c.args.journal.now (sym c.read_journal-found.ensures ∙ c.in-WellFormed.is) _ (row_buffers_of c.args.elements.now c.args.intrinsics.now c.args.near.now c.args.raw_logs.now c.args.parents.now c.args.scores.now c.args.distances.now) c.if-rows-number.true in rw e (refl, refl)
+returns-then-rows-number c =
+    let lent = row_buffers_of c.args.elements.now c.args.intrinsics.now c.args.near.now c.args.raw_logs.now c.args.parents.now c.args.scores.now c.args.distances.now in
+    let e = row-past c.args.journal.now (sym c.read_journal-found.ensures ∙ c.in-WellFormed.is) _ lent c.if-rows-number.true in rw e (refl, refl)
 
 pub end_before-place-requires : goal.end_before-place-requires
 end_before-place-requires c = row-standing c.args.journal.now (sym c.read_journal-found.ensures ∙ c.in-WellFormed.is) _ c.if-rows-number.false
@@ -27,7 +29,11 @@ copy_row-requires c = rw take_rest (row-whole c.args.journal.now (sym c.read_jou
 
 pub returns-in-NotWellFormed : goal.returns-in-NotWellFormed
 unfolding row_answer filled
-returns-in-NotWellFormed c = let e = row-unread c.args.journal.now c.args.row (row_buffers_of c.args.elements.now c.args.intrinsics.now c.args.near.now c.args.raw_logs.now c.args.parents.now c.args.scores.now c.args.distances.now) (sym c.read_journal-found.ensures ∙ c.in-NotWellFormed.is) in rw e (refl, refl)
+returns-in-NotWellFormed c =
+    let lent = row_buffers_of c.args.elements.now c.args.intrinsics.now c.args.near.now c.args.raw_logs.now c.args.parents.now c.args.scores.now c.args.distances.now in
+    let e = row-unread c.args.journal.now c.args.row lent (sym c.read_journal-found.ensures ∙ c.in-NotWellFormed.is) in rw e (refl, refl)
 
 pub returns-else-rows-number : goal.returns-else-rows-number
-returns-else-rows-number c = let e = row-reading c.args.journal.now (sym c.read_journal-found.ensures ∙ c.in-WellFormed.is) _ c.if-rows-number.false c.end_before-place.ensures (row_buffers_of c.args.elements.now c.args.intrinsics.now c.args.near.now c.args.raw_logs.now c.args.parents.now c.args.scores.now c.args.distances.now) in rw e (rw take_rest at c.copy_row.ensures)
+returns-else-rows-number c =
+    let lent = row_buffers_of c.args.elements.now c.args.intrinsics.now c.args.near.now c.args.raw_logs.now c.args.parents.now c.args.scores.now c.args.distances.now in
+    let e = row-reading c.args.journal.now (sym c.read_journal-found.ensures ∙ c.in-WellFormed.is) _ c.if-rows-number.false c.end_before-place.ensures lent in rw e (rw take_rest at c.copy_row.ensures)
