@@ -1,0 +1,2 @@
+-- What the contracts of `refusals`, and of all calls that can be refused, cite.
+pub mod Refusals
