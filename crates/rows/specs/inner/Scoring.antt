@@ -1,6 +1,6 @@
 -- The row of a fix as the code comes by it: the predecessor is read from its record, and parents and scores go into two slices.
-use Rattle.std.specs.Prelude.{ℕ, zero, suc, ◌+◌, ◌*◌, ◌<◌, ◌≤◌, ◌≡◌, Bool, true, cond, List, length, get_or, drop, Float}
-use Rattle.std.proofs.Math.Option.{Option, none, some}
+use Rattle.std.specs.Prelude.{ℕ, zero, suc, ◌+◌, ◌*◌, ◌<◌, ◌≤◌, ◌≡◌, Bool, true, cond, List, length, get_or, drop, Float, Option, Some, None}
+use Rattle.std.proofs.Math.Option.{Option as Maybe, none, some}
 use Rattle.std.specs.Float.{nan}
 use Rattle.std.specs.Float.Ieee.{lt, le}
 use Rattle.lists.specs.Loops.{any_below}
@@ -11,8 +11,6 @@ use Rattle.journal.specs.Row.{Fix, Row, candidate_count, candidate_of, row_size,
 use Rattle.journal.specs.Record.{first_cell, read_row}
 use Rattle.journal.specs.declared.record.Candidate.{Candidate}
 use Rattle.transition.specs.inner.Track.{TrackFits}
-use Rattle.transition.specs.declared.step.Step.{Step}
-use Rattle.transition.specs.declared.step.Step.TheVariants.{Possible, Impossible}
 use Rattle.rows.specs.Row.{StepScore, Scored, first_best, break_score, floored_log, floored, sum_through, is_possible, offer, scored}
 use Rattle.rows.specs.declared.previous.Previous.{Previous}
 use Rattle.rows.specs.declared.offers.Offers.{Offers}
@@ -35,7 +33,7 @@ pub record RecordKnown (n : ℕ) (words : List ℕ) (p : ℕ) : Type 0 where
   pub element : (j : ℕ) → j < p → (cell_of (read_row words) j).candidate.element < n
 
 -- no predecessor where there are 0 candidates
-abbrev pub predecessor_in : List ℕ → ℕ → Option Row
+abbrev pub predecessor_in : List ℕ → ℕ → Maybe Row
 predecessor_in words zero = none
 predecessor_in words (suc p) = some (read_row words)
 
@@ -51,16 +49,16 @@ later_best b j s = cond (le b.score s) (record { candidate = j; score = s }) b
 -- ---- offers
 
 -- of candidate j of the predecessor to own candidate b at their distance
-unfoldable pub offer_to : StepScore → Row → Candidate → Float → ℕ → Step
+unfoldable pub offer_to : StepScore → Row → Candidate → Float → ℕ → Option Float
 offer_to step p b distance j = sum_through (score_of p j) (step (cell_of p j).candidate b distance) (floored b)
 
 -- the best so far and the offer of candidate j: the first of equals
-unfoldable pub better_offer : Offers → ℕ → Step → Offers
-better_offer b j Impossible = b
-better_offer b j (Possible v) = cond (lt b.score v) (record { parent = j; score = v; possible = true }) (record { parent = b.parent; score = b.score; possible = true })
+unfoldable pub better_offer : Offers → ℕ → Option Float → Offers
+better_offer b j None = b
+better_offer b j (Some v) = cond (lt b.score v) (record { parent = j; score = v; possible = true }) (record { parent = b.parent; score = b.score; possible = true })
 
 -- the best of n offers, and whether one is possible
-unfoldable pub best_offer : (ℕ → Step) → ℕ → Offers
+unfoldable pub best_offer : (ℕ → Option Float) → ℕ → Offers
 best_offer g n = record { parent = (first_best g n).0; score = (first_best g n).1; possible = any_below n (λ j. is_possible (g j)) }
 
 -- ---- a broken row

@@ -1,11 +1,10 @@
 -- Routes in one table of costs: a row for each start, in it an entry for each goal. Starts and goals are nodes.
-use Rattle.std.specs.Prelude.{ℕ, ◌+◌, ◌*◌, false, cond, List, ltb, length, get_or, replicate, Float}
+use Rattle.std.specs.Prelude.{ℕ, ◌+◌, ◌*◌, false, cond, List, ltb, length, get_or, replicate, Float, Option}
 use Rattle.std.proofs.lemmas.List.Edits.{sets}
 use Rattle.std.specs.Float.{nan, inf}
 use Rattle.lists.specs.Loops.{up_to}
 use Rattle.network.specs.Graph.{Graph, element_count}
 use Rattle.routing.specs.inner.Goals.{node_route, route_of, costs_by}
-use Rattle.routing.specs.declared.route.Route.{Route}
 use Rattle.transition.specs.declared.routes.Routes.{Routes}
 
 -- ---- entries
@@ -15,7 +14,7 @@ unfoldable pub no_routes : List Float
 no_routes = replicate 1024 (inf false)
 
 -- from start r to goal k of so many goals
-unfoldable pub route_entry : List Float → ℕ → ℕ → ℕ → Route
+unfoldable pub route_entry : List Float → ℕ → ℕ → ℕ → Option Float
 route_entry found columns r k = route_of (get_or found (r * columns + k) nan)
 
 -- from candidate j to candidate i, of which each has two starts, or two goals: its sides
