@@ -1,21 +1,17 @@
 // The states of a route, by the predecessors back from the state that ended the search.
-ghost use Rattle.std.specs.Prelude.{◌≡◌, ◌++◌, reverse, ℕ, ◌*◌, ◌<◌, ◌≤◌, length, get_or, drop};
-ghost use Rattle.network.specs.Graph.{Graph, element_count};
+ghost use Rattle.std.specs.Prelude.{◌≡◌, ◌++◌, reverse, Some, ℕ, ◌*◌, ◌<◌, ◌≤◌, length, get_or, drop};
+ghost use Rattle.network.specs.Graph.{element_count};
 ghost use Rattle.network.specs.inner.Compiled.{graph_in};
 ghost use Rattle.network.specs.inner.Sound.{SoundGraph};
 ghost use Rattle.routing.specs.Search.{searched};
 ghost use Rattle.routing.specs.Route.{steps_back, states_back, route_fitted, states_of_end, states_stored};
 ghost use Rattle.routing.specs.inner.Goals.{end_answer};
 
-use crate::route::{Listing, Route};
-use crate::search::{Pick, no_costs, no_preds, search_between};
-use network::link::wide;
-
-fn state_number(x: u16) -> u32
-    ensures { result ≡ x }
-{
-    x as u32
-}
+use crate::route::ListedRoute;
+use crate::search::search_between;
+use binary64::infinity;
+use network::compile::CompiledGraph;
+use refusals::Refusal;
 
 // How many states there are from s back to the start, both counted; at most `most`.
 fn steps_back(preds: &[u16; 4096], start: usize, most: usize, s: usize) -> usize
@@ -28,7 +24,7 @@ fn steps_back(preds: &[u16; 4096], start: usize, most: usize, s: usize) -> usize
         if at == start {
             return n + 1;
         }
-        at = wide(state_number(preds[at]));
+        at = usize::from(preds[at]);
     }
     most
 }
@@ -40,12 +36,12 @@ fn write_back(preds: &[u16; 4096], s: usize, n: usize, states: &mut [u32])
     requires n_in_bounds { n ≤ length states.old }
     ensures { states.new ≡ reverse (states_back preds.now n s) ++ drop n states.old }
 {
-    let mut at = s as u32;
+    let mut at = s as u16;
     let mut i = n;
     while 0 < i {
         i -= 1;
-        states[i] = at;
-        at = state_number(preds[wide(at)]);
+        states[i] = u32::from(at);
+        at = preds[usize::from(at)];
     }
 }
 
@@ -57,40 +53,44 @@ fn list_back(
     s: usize,
     cost: f64,
     states: &mut [u32],
-) -> Listing
+) -> Result<Option<ListedRoute>, Refusal>
     requires s_bound { s < 4096 }
     requires by_index { (k : ℕ) → get_or preds.now k 0 < 4096 }
-    ensures value { result ≡ route_fitted (Route.Cost cost) (steps_back preds.now start most s) (length states.old) }
+    ensures value { result ≡ route_fitted (Some cost) (steps_back preds.now start most s) (length states.old) }
     ensures states_after { states.new ≡ states_stored result (reverse (states_back preds.now (steps_back preds.now start most s) s)) states.old }
 {
     let n = steps_back(preds, start, most, s);
     if states.len() < n {
-        return Listing::Refused(15);
+        return Err(Refusal::Buffer);
     }
     write_back(preds, s, n, states);
-    Listing::Listed(cost, n)
+    Ok(Some(ListedRoute { cost, states: n }))
 }
 
 // The states of the cheapest route between two nodes.
 pub fn states_between(
-    lengths: &[f64],
-    heads: &[u16; 2048],
-    links: &[u32; 8192],
+    graph: &CompiledGraph<'_>,
     start: usize,
     goal: usize,
     states: &mut [u32],
-) -> Listing
-    requires sound_graph { let g = graph_in lengths.now heads.now links.now in SoundGraph g }
-    requires start_bound { let g = graph_in lengths.now heads.now links.now in start < 2 * element_count g }
-    ensures value { let g = graph_in lengths.now heads.now links.now in result ≡ end_answer g start goal (length states.old) }
-    ensures states_after { let g = graph_in lengths.now heads.now links.now in
+) -> Result<Option<ListedRoute>, Refusal>
+    requires sound_graph { SoundGraph (graph_in graph.now) }
+    requires start_bound { start < 2 * element_count (graph_in graph.now) }
+    ensures value { result ≡ end_answer (graph_in graph.now) start goal (length states.old) }
+    ensures states_after { let g = graph_in graph.now in
         states.new ≡ states_stored result (states_of_end (2 * start) (4 * element_count g) (searched g start goal)) states.old }
 {
-    let mut costs = no_costs();
-    let mut preds = no_preds();
-    let end = search_between(&mut costs, &mut preds, lengths, heads, links, start, goal);
-    match end {
-        Pick::At(s) => list_back(&preds, 2 * start, 4 * lengths.len(), s, costs[s], states),
-        Pick::Nothing => Listing::NoRoute,
+    let mut costs = [infinity(); 4096];
+    let mut preds = [0; 4096];
+    match search_between(&mut costs, &mut preds, graph, start, goal) {
+        Some(s) => list_back(
+            &preds,
+            2 * start,
+            4 * graph.lengths.len(),
+            s,
+            costs[s],
+            states,
+        ),
+        None => Ok(None),
     }
 }

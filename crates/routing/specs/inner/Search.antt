@@ -1,12 +1,10 @@
 -- What bounds the numbers of a search.
-use Rattle.std.specs.Prelude.{ℕ, zero, suc, ◌+◌, ◌<◌, Bool, false, cond, List, get_or}
-use Rattle.routing.specs.declared.search.Pick.{Pick}
-use Rattle.routing.specs.declared.search.Pick.TheVariants.{At, Nothing}
+use Rattle.std.specs.Prelude.{ℕ, zero, suc, ◌+◌, ◌<◌, Bool, false, cond, List, Option, Some, None, get_or}
 
 -- a pick is a state below n
-abbrev pub Within : ℕ → Pick → Type 0
-Within n (At j) = j < n
-Within n Nothing = Unit {0}
+abbrev pub Within : ℕ → Option ℕ → Type 0
+Within n (Some j) = j < n
+Within n None = Unit {0}
 
 -- how many of the first n states are unsettled: as many turns are left at most
 unfoldable pub unsettled : List Bool → ℕ → ℕ
