@@ -1,6 +1,6 @@
 // The rows of a journal, the oldest first, compared with what feeding their fixes would write. Rows of one minute share a compiled network.
-ghost use Rattle.std.specs.Prelude.{◌≡◌, false, List, ◌⊎◌, ◌<◌};
-ghost use Rattle.network.specs.Network.{Network, network_of, known_count, checked};
+ghost use Rattle.std.specs.Prelude.{◌≡◌, false, Ok, List, ◌⊎◌, ◌<◌};
+ghost use Rattle.network.specs.Network.{known_count, checked};
 ghost use Rattle.network.specs.Graph.{element_count};
 ghost use Rattle.journal.specs.Row.{Row, row_number};
 ghost use Rattle.journal.specs.inner.Rows.{rows_in};
@@ -12,10 +12,11 @@ ghost use Rattle.replaying.specs.inner.Comparing.{Replayable, StandsAt, Stretch,
 use crate::row::row_same;
 use journal::lengths::record_length;
 use journal::read::minute_of;
-use network::check::Checked;
-use network::compile::{compile_network, no_heads, no_links};
+use network::compile::compile_network;
+use network::lent::Network;
 use rows::record::{before_count, candidate_count, predecessor_place};
 use transition::step::Settings;
+use transition::track::Track;
 
 // How far the comparison came: a row's number, where its record starts, and whether it is the same, as far as that was found. Past the last row the
 // place is the end of the used words.
@@ -28,25 +29,18 @@ pub struct Reached {
 
 // From a row on, up to the first that differs or is of another minute than the compiled network.
 fn compare_stretch(
-    lengths: &[f64],
-    headings: &[f64],
-    flags: &[u32],
-    heads: &[u16; 2048],
-    links: &[u32; 8192],
+    track: &Track<'_>,
     settings: Settings,
     minute: u32,
     journal: &[u32],
     end: usize,
     start: Reached,
 ) -> Reached
-    requires track_fits { let t = track_in lengths.now headings.now flags.now heads.now links.now in
-        let rs = rows_in journal.now in
-        TrackFits t × Replayable (element_count t.graph) rs journal.now end }
+    requires track_fits { let t = track_in track.now in
+        TrackFits t × Replayable (element_count t.graph) (rows_in journal.now) journal.now end }
     requires stands_at { let rs = rows_in journal.now in
         StandsAt rs start.row start.at × (start.at < end) × ((row_number rs start.row).minute ≡ minute) }
-    ensures { let t = track_in lengths.now headings.now flags.now heads.now links.now in
-        let rs = rows_in journal.now in
-        Stretch (step_on t settings) minute rs start.row result }
+    ensures { Stretch (step_on (track_in track.now) settings) minute (rows_in journal.now) start.row result }
 {
     let mut at = start.at;
     let mut row = start.row;
@@ -60,16 +54,7 @@ fn compare_stretch(
             };
         }
         let place = predecessor_place(own);
-        if !row_same(
-            lengths,
-            headings,
-            flags,
-            heads,
-            links,
-            settings,
-            own,
-            &journal[place..],
-        ) {
+        if !row_same(track, settings, own, &journal[place..]) {
             return Reached {
                 row,
                 at,
@@ -88,81 +73,32 @@ fn compare_stretch(
 
 // From a row on, up to the first that differs or is of another minute than it: the network is compiled for its minute.
 fn compare_minute(
-    lengths: &[f64],
-    headings: &[f64],
-    flags: &[u32],
-    from: &[u32],
-    to: &[u32],
-    from_side: &[u32],
-    to_side: &[u32],
-    forward: &[u32],
-    backward: &[u32],
-    window_counts: &[u32],
-    window_firsts: &[u32],
-    window_lasts: &[u32],
+    net: &Network<'_>,
     settings: Settings,
     journal: &[u32],
     end: usize,
     start: Reached,
 ) -> Reached
-    requires fact { let net = network_of lengths.now headings.now flags.now from.now to.now from_side.now to_side.now forward.now backward.now window_counts.now window_firsts.now window_lasts.now in
-        let rs = rows_in journal.now in
-        (checked net ≡ Checked.Accepted) × Replayable (known_count net) rs journal.now end }
-    requires compared { let net = network_of lengths.now headings.now flags.now from.now to.now from_side.now to_side.now forward.now backward.now window_counts.now window_firsts.now window_lasts.now in
-        let rs = rows_in journal.now in
-        Compared (transition net settings) rs start × (start.at < end) }
-    ensures { let net = network_of lengths.now headings.now flags.now from.now to.now from_side.now to_side.now forward.now backward.now window_counts.now window_firsts.now window_lasts.now in
-        let rs = rows_in journal.now in
-        Compared (transition net settings) rs result × ((start.row < result.row) ⊎ (result.same ≡ false)) }
+    requires accepted { checked net.now ≡ Ok tt }
+    requires replayable { Replayable (known_count net.now) (rows_in journal.now) journal.now end }
+    requires compared { Compared (transition net.now settings) (rows_in journal.now) start × (start.at < end) }
+    ensures { Compared (transition net.now settings) (rows_in journal.now) result × ((start.row < result.row) ⊎ (result.same ≡ false)) }
 {
-    let at = start.at;
-    let minute = minute_of(&journal[at..]);
-    let mut heads = no_heads();
-    let mut links = no_links();
-    compile_network(
-        lengths,
-        from,
-        to,
-        from_side,
-        to_side,
-        forward,
-        backward,
-        window_counts,
-        window_firsts,
-        window_lasts,
-        minute,
-        &mut heads,
-        &mut links,
-    );
-    compare_stretch(
-        lengths, headings, flags, &heads, &links, settings, minute, journal, end, start,
-    )
+    let minute = minute_of(&journal[start.at..]);
+    let graph = compile_network(net, minute);
+    let track = Track {
+        graph: &graph,
+        headings: net.headings,
+        flags: net.flags,
+    };
+    compare_stretch(&track, settings, minute, journal, end, start)
 }
 
 // All rows, up to the first that differs.
-pub fn compare_rows(
-    lengths: &[f64],
-    headings: &[f64],
-    flags: &[u32],
-    from: &[u32],
-    to: &[u32],
-    from_side: &[u32],
-    to_side: &[u32],
-    forward: &[u32],
-    backward: &[u32],
-    window_counts: &[u32],
-    window_firsts: &[u32],
-    window_lasts: &[u32],
-    settings: Settings,
-    journal: &[u32],
-    end: usize,
-) -> Reached
-    requires { let net = network_of lengths.now headings.now flags.now from.now to.now from_side.now to_side.now forward.now backward.now window_counts.now window_firsts.now window_lasts.now in
-        let rs = rows_in journal.now in
-        (checked net ≡ Checked.Accepted) × Replayable (known_count net) rs journal.now end }
-    ensures { let net = network_of lengths.now headings.now flags.now from.now to.now from_side.now to_side.now forward.now backward.now window_counts.now window_firsts.now window_lasts.now in
-        let rs = rows_in journal.now in
-        Compared (transition net settings) rs result × ((result.at ≡ end) ⊎ (result.same ≡ false)) }
+pub fn compare_rows(net: &Network<'_>, settings: Settings, journal: &[u32], end: usize) -> Reached
+    requires accepted { checked net.now ≡ Ok tt }
+    requires replayable { Replayable (known_count net.now) (rows_in journal.now) journal.now end }
+    ensures { Compared (transition net.now settings) (rows_in journal.now) result × ((result.at ≡ end) ⊎ (result.same ≡ false)) }
 {
     let mut reached = Reached {
         row: 0,
@@ -170,24 +106,7 @@ pub fn compare_rows(
         same: true,
     };
     while reached.at < end {
-        reached = compare_minute(
-            lengths,
-            headings,
-            flags,
-            from,
-            to,
-            from_side,
-            to_side,
-            forward,
-            backward,
-            window_counts,
-            window_firsts,
-            window_lasts,
-            settings,
-            journal,
-            end,
-            reached,
-        );
+        reached = compare_minute(net, settings, journal, end, reached);
         if !reached.same {
             return reached;
         }

@@ -11,22 +11,13 @@ use journal::record::{FIRST_CELL, distance_count};
 use rows::record::{before_count, candidate_count, candidates_at};
 use rows::row::score_row;
 use transition::step::Settings;
+use transition::track::Track;
 
 // The row at the head of the words `own`, on its predecessor at the head of `previous`, scored as feeding scores it. The fix is rebuilt from the
 // record; only parents and scores can differ then.
-pub fn row_same(
-    lengths: &[f64],
-    headings: &[f64],
-    flags: &[u32],
-    heads: &[u16; 2048],
-    links: &[u32; 8192],
-    settings: Settings,
-    own: &[u32],
-    previous: &[u32],
-) -> bool
-    requires { let t = track_in lengths.now headings.now flags.now heads.now links.now in RecordsStand t own.now previous.now }
-    ensures { let t = track_in lengths.now headings.now flags.now heads.now links.now in
-        result ≡ same_row (step_on t settings) own.now previous.now }
+pub fn row_same(track: &Track<'_>, settings: Settings, own: &[u32], previous: &[u32]) -> bool
+    requires { RecordsStand (track_in track.now) own.now previous.now }
+    ensures { result ≡ same_row (step_on (track_in track.now) settings) own.now previous.now }
 {
     let count = candidate_count(own);
     let before = before_count(own);
@@ -37,11 +28,7 @@ pub fn row_same(
     let mut parents = [31u32; 16];
     let mut scores = [0.0; 16];
     score_row(
-        lengths,
-        headings,
-        flags,
-        heads,
-        links,
+        track,
         previous,
         before,
         fix,

@@ -1,6 +1,6 @@
 -- Comparing rows as the code comes by it: record by record from the front of the journal, a stretch of rows of one minute at a time.
-use Rattle.std.specs.Prelude.{ℕ, suc, ◌<◌, ◌≤◌, ◌≡◌, ◌⊎◌, Bool, true, false, ◌&&◌, List, T, eqb, length, Float}
-use Rattle.std.proofs.Math.Option.{none, some}
+use Rattle.std.specs.Prelude.{ℕ, suc, ◌<◌, ◌≤◌, ◌≡◌, ◌⊎◌, Bool, true, false, ◌&&◌, Some, None, List, T, eqb, length, Float}
+use Rattle.std.proofs.Math.Option.{some}
 use Rattle.std.specs.Float.{binary64}
 use Rattle.std.specs.Float.Ieee.{to_bits}
 use Rattle.network.specs.Graph.{element_count}
@@ -69,5 +69,5 @@ pub record Stretch (step : StepScore) (minute : ℕ) (rs : List Row) (start : �
 -- from the first row on: no row before the one reached differs, and that one does where this is told
 pub record Compared (step : StepsAt) (rs : List Row) (r : Reached) : Type 0 where
   pub stands : StandsAt rs r.row r.at
-  pub so_far : first_differing step (rows_before rs r.row) ≡ none
-  pub told : r.same ≡ false → first_differing step rs ≡ some r.row
+  pub so_far : first_differing step (rows_before rs r.row) ≡ None
+  pub told : r.same ≡ false → first_differing step rs ≡ Some r.row
