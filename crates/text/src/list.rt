@@ -1,35 +1,27 @@
 // The lists of the case language, read into lent slices entry by entry. Entries past a slice's end are read and not stored.
 ghost use Rattle.std.specs.Prelude.{◌≡◌, ◌<◌, take};
-ghost use Rattle.text.specs.inner.Lists.{number_into, float_into, elements_read_of, element, read_elements, relations_read_of, relation, read_relations, windows_read_of, window, read_windows, candidates_read_of, candidate, read_candidates, read_distances, segments_read_of, segment, read_segments};
+ghost use Rattle.text.specs.inner.Lists.{entry_stored, number_into, float_into, elements_read_of, element, read_elements, relations_read_of, relation, read_relations, windows_read_of, window, read_windows, candidates_read_of, candidate, read_candidates, read_distances, segments_read_of, segment, read_segments};
 
-use crate::cursor::{Cursor, take_float, take_number};
+use crate::cursor::{Cursor, Taken, take_float, take_number};
 
 // The first n entries of a slice; all of them where there are fewer.
-pub fn first_numbers<'a>(numbers: &'a [u32], n: usize) -> &'a [u32]
-    ensures { result.now ≡ take n numbers.now }
+pub fn first<'a, T>(xs: &'a [T], n: usize) -> &'a [T]
+    ensures { result.now ≡ take n xs.now }
 {
-    if n < numbers.len() {
-        return &numbers[..n];
-    }
-    numbers
+    &xs[..n.min(xs.len())]
 }
 
-pub fn first_floats<'a>(floats: &'a [f64], n: usize) -> &'a [f64]
-    ensures { result.now ≡ take n floats.now }
+// What a word was read as, into entry i.
+fn entered<T: Copy>(taken: Taken<T>, i: usize, xs: &mut [T]) -> Cursor
+    ensures value { result ≡ (entry_stored i taken.cursor taken.value xs.old).0 }
+    ensures entries_after { xs.new ≡ (entry_stored i taken.cursor taken.value xs.old).1 }
 {
-    if n < floats.len() {
-        return &floats[..n];
+    let cursor = taken.cursor;
+    if cursor.bad || xs.len() <= i {
+        return cursor;
     }
-    floats
-}
-
-pub fn first_bytes<'a>(bytes: &'a [u8], n: usize) -> &'a [u8]
-    ensures { result.now ≡ take n bytes.now }
-{
-    if n < bytes.len() {
-        return &bytes[..n];
-    }
-    bytes
+    xs[i] = taken.value;
+    cursor
 }
 
 // The next word as a number, into entry i.
@@ -37,15 +29,7 @@ fn number_into(text: &[u8], c: Cursor, i: usize, numbers: &mut [u32]) -> Cursor
     ensures value { result ≡ (number_into text.now i c numbers.old).0 }
     ensures numbers_after { numbers.new ≡ (number_into text.now i c numbers.old).1 }
 {
-    let taken = take_number(text, c);
-    let cursor = taken.cursor;
-    if cursor.bad {
-        return cursor;
-    }
-    if i < numbers.len() {
-        numbers[i] = taken.value;
-    }
-    cursor
+    entered(take_number(text, c), i, numbers)
 }
 
 // The next word as a float, into entry i.
@@ -53,15 +37,7 @@ fn float_into(text: &[u8], c: Cursor, i: usize, floats: &mut [f64]) -> Cursor
     ensures value { result ≡ (float_into text.now i c floats.old).0 }
     ensures floats_after { floats.new ≡ (float_into text.now i c floats.old).1 }
 {
-    let taken = take_float(text, c);
-    let cursor = taken.cursor;
-    if cursor.bad {
-        return cursor;
-    }
-    if i < floats.len() {
-        floats[i] = taken.value;
-    }
-    cursor
+    entered(take_float(text, c), i, floats)
 }
 
 // Length, headings and flag of element k.

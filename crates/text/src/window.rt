@@ -2,20 +2,15 @@
 ghost use Rattle.std.specs.Prelude.{◌≡◌, length};
 ghost use Rattle.text.specs.inner.Window.{rest, moved};
 
-use crate::cursor::least;
-
 // Moves what is left from a place on of the bytes that a window holds to its front, and answers how many they are.
 pub fn keep_rest(window: &mut [u8], at: usize, filled: usize) -> usize
     ensures value { result ≡ length (rest window.old at filled) }
     ensures window_after { window.new ≡ moved window.old at filled }
 {
-    let end = least(filled, window.len());
+    let end = filled.min(window.len());
     if end < at {
         return 0;
     }
-    let n = end - at;
-    for k in 0..n {
-        window[k] = window[at + k];
-    }
-    n
+    window.copy_within(at..end, 0);
+    end - at
 }

@@ -5,23 +5,20 @@ ghost use Rattle.text.specs.inner.Written.{last_digits, zeros, decimal, hex_word
 
 use journal::float::bits_of;
 
-const NO_ROOM: usize = 18446744073709551615;
+// A place behind any slice's end.
+const NO_ROOM: usize = usize::MAX;
 
 // The bytes of a word.
 pub fn put_bytes(out: &mut [u8], at: usize, word: &[u8]) -> usize
     ensures value { result ≡ place_behind out.old at word.now }
     ensures out_after { out.new ≡ bytes_stored out.old at word.now }
 {
-    if out.len() < at {
+    if out.len() < at || out.len() - at < word.len() {
         return NO_ROOM;
     }
-    if out.len() - at < word.len() {
-        return NO_ROOM;
-    }
-    for k in 0..word.len() {
-        out[at + k] = word[k];
-    }
-    at + word.len()
+    let end = at + word.len();
+    out[at..end].copy_from_slice(word);
+    end
 }
 
 fn glyph(d: u64) -> u8
@@ -39,11 +36,9 @@ fn fill_digits(out: &mut [u8], base: u64, n: u64)
     requires { (1 ≤ base) × (base ≤ 16) }
     ensures { out.new ≡ last_digits base (length out.old) n }
 {
-    let mut k = out.len();
     let mut rest = n;
-    while 0 < k {
-        k -= 1;
-        out[k] = glyph(rest % base);
+    for digit in out.iter_mut().rev() {
+        *digit = glyph(rest % base);
         rest /= base;
     }
 }
@@ -52,14 +47,8 @@ fn fill_digits(out: &mut [u8], base: u64, n: u64)
 fn count_zeros(digits: &[u8]) -> usize
     ensures { result ≡ zeros digits.now }
 {
-    let mut k = 0;
-    while k + 1 < digits.len() {
-        if digits[k] != b'0' {
-            return k;
-        }
-        k += 1;
-    }
-    k
+    let zeros = digits.iter().take_while(|d| **d == b'0').count();
+    zeros.min(digits.len().saturating_sub(1))
 }
 
 // A number in decimal.
@@ -68,7 +57,7 @@ pub fn put_number(out: &mut [u8], at: usize, n: u32) -> usize
     ensures out_after { out.new ≡ bytes_stored out.old at (decimal n) }
 {
     let mut digits = [0u8; 10];
-    fill_digits(&mut digits, 10, n as u64);
+    fill_digits(&mut digits, 10, u64::from(n));
     let first = count_zeros(&digits);
     put_bytes(out, at, &digits[first..])
 }
@@ -79,7 +68,7 @@ pub fn put_hex_word(out: &mut [u8], at: usize, w: u32) -> usize
     ensures out_after { out.new ≡ bytes_stored out.old at (hex_word w) }
 {
     let mut digits = [0u8; 8];
-    fill_digits(&mut digits, 16, w as u64);
+    fill_digits(&mut digits, 16, u64::from(w));
     put_bytes(out, at, &digits)
 }
 

@@ -1,7 +1,5 @@
 -- Whole numbers by their digits.
-use Rattle.std.specs.Prelude.{ℕ, ◌+◌, ◌-◌, ◌*◌, min, Bool, true, ◌&&◌, cond, List, [], ◌∷◌, eqb, leb, ltb, length}
-use Rattle.text.specs.declared.number.Number.{Number}
-use Rattle.text.specs.declared.number.Number.TheVariants.{Value, Unreadable}
+use Rattle.std.specs.Prelude.{ℕ, ◌+◌, ◌-◌, ◌*◌, Bool, true, ◌&&◌, cond, List, [], ◌∷◌, eqb, leb, ltb, length, Option, Some, None}
 
 -- what a digit counts: `0` to `9`, then `A` to `F`; 16 for any other byte
 unfoldable pub figure : ℕ → ℕ
@@ -17,18 +15,14 @@ unfoldable pub value : ℕ → ℕ → List ℕ → ℕ
 value base n [] = n
 value base n (b ∷ l) = value base (n * base + figure b) l
 
--- this number where it is below the limit, and the limit where it is not, or where a byte is no digit
-unfoldable pub value_below : ℕ → ℕ → ℕ → List ℕ → ℕ
-value_below base limit n l = cond (all_digits base l) (min limit (value base n l)) limit
+-- this number where every byte is a digit and it is below the limit
+unfoldable pub value_below : ℕ → ℕ → ℕ → List ℕ → Option ℕ
+value_below base limit n l = cond (all_digits base l && ltb (value base n l) limit) (Some (value base n l)) None
 
--- a number of 32 bits
-abbrev pub number_fitted : ℕ → Number
-number_fitted n = cond (ltb n 4294967296) (Value n) Unreadable
-
--- at least one decimal digit; zeros in front are allowed
-unfoldable pub number_of : List ℕ → Number
-number_of w = cond (eqb (length w) 0) Unreadable (number_fitted (value_below 10 4294967296 0 w))
+-- at least one decimal digit, and a number of 32 bits; zeros in front are allowed
+unfoldable pub number_of : List ℕ → Option ℕ
+number_of w = cond (eqb (length w) 0) None (value_below 10 4294967296 0 w)
 
 -- eight hexadecimal digits, no more and no fewer
-unfoldable pub hex_word_of : List ℕ → Number
-hex_word_of w = cond (eqb (length w) 8) (number_fitted (value_below 16 4294967296 0 w)) Unreadable
+unfoldable pub hex_word_of : List ℕ → Option ℕ
+hex_word_of w = cond (eqb (length w) 8) (value_below 16 4294967296 0 w) None
