@@ -1,11 +1,11 @@
 -- Reading a row of the journal back.
-use Rattle.std.specs.Prelude.{ℕ, min, cond, List, map, leb, ltb, length, Float}
+use Rattle.std.specs.Prelude.{ℕ, min, cond, List, map, leb, ltb, length, Float, Result, Ok, Err}
 use Rattle.std.proofs.Math.Option.{Option, none, some}
+use Rattle.refusals.specs.declared.Refusal.{Refusal}
 use Rattle.journal.specs.Row.{Cell, Row, row_size, row_number}
 use Rattle.journal.specs.Journal.{read_journal}
 use Rattle.journal.specs.Buffer.{stored_first}
 use Rattle.closing.specs.declared.row.RowRead.{RowRead}
-use Rattle.closing.specs.declared.row.RowRead.TheVariants.{Row as Answer, Refused}
 
 -- the buffers that are lent for a row, one for each field of a candidate, and for the distances
 pub record RowBuffers : Type 0 where
@@ -32,32 +32,27 @@ row_buffers_of elements intrinsics near raw_logs parents scores distances = reco
 abbrev pub candidate_room : RowBuffers → ℕ
 candidate_room b = min (min (length b.elements) (min (length b.near) (length b.parents))) (min (length b.intrinsics) (min (length b.raw_logs) (length b.scores)))
 
--- a row, or a refusal's number
-pub data Reading : Type 0 where
-  gives : Row → Reading
-  refused : ℕ → Reading
-
 -- 15: the lists within the buffers
-unfoldable pub row_fitted : RowBuffers → Row → Reading
-row_fitted b r = cond (leb (row_size r) (candidate_room b)) (cond (leb (length r.distances) (length b.distances)) (gives r) (refused 15)) (refused 15)
+unfoldable pub row_fitted : RowBuffers → Row → Result Row Refusal
+row_fitted b r = cond (leb (row_size r) (candidate_room b)) (cond (leb (length r.distances) (length b.distances)) (Ok r) (Err Refusal.Buffer)) (Err Refusal.Buffer)
 
-abbrev pub reading_read : ℕ → RowBuffers → Option (List Row) → Reading
-reading_read n b none = refused 7
-reading_read n b (some rs) = cond (ltb n (length rs)) (row_fitted b (row_number rs n)) (refused 13)
+abbrev pub reading_read : ℕ → RowBuffers → Option (List Row) → Result Row Refusal
+reading_read n b none = Err Refusal.Journal
+reading_read n b (some rs) = cond (ltb n (length rs)) (row_fitted b (row_number rs n)) (Err Refusal.Row)
 
 -- checks 7, 13 and 15
-unfoldable pub reading : List ℕ → ℕ → RowBuffers → Reading
+unfoldable pub reading : List ℕ → ℕ → RowBuffers → Result Row Refusal
 reading s n b = reading_read n b (read_journal s)
 
--- its candidates, predecessor candidates and minute, or a refusal's number
-unfoldable pub row_answer : Reading → RowRead
-row_answer (gives r) = Answer (row_size r) r.before r.minute
-row_answer (refused k) = Refused k
+-- its candidates, predecessor candidates and minute, or a refusal
+unfoldable pub row_answer : Result Row Refusal → Result RowRead Refusal
+row_answer (Ok r) = Ok (record { candidates = row_size r; before = r.before; minute = r.minute })
+row_answer (Err k) = Err k
 
 -- the buffers after the call: as they were where no row is answered
-unfoldable pub filled : Reading → RowBuffers → RowBuffers
-filled (refused k) b = b
-filled (gives r) b = record {
+unfoldable pub filled : Result Row Refusal → RowBuffers → RowBuffers
+filled (Err k) b = b
+filled (Ok r) b = record {
   elements = stored_first (map (λ (c : Cell). c.candidate.element) r.cells) b.elements;
   intrinsics = stored_first (map (λ (c : Cell). c.candidate.intrinsic) r.cells) b.intrinsics;
   near = stored_first (map (λ (c : Cell). c.candidate.near) r.cells) b.near;

@@ -3,4 +3,5 @@
 
 pub mod close;
 pub mod row;
+pub mod start;
 pub mod walk;

@@ -4,17 +4,20 @@ ghost use Rattle.journal.specs.Record.{read_row};
 ghost use Rattle.journal.specs.inner.Buffer.{RecordWhole};
 ghost use Rattle.closing.specs.Row.{RowBuffers, row_buffers_of, row_fitted, reading, row_answer, filled};
 
-use journal::buffer::{copy_fields, copy_floats, least};
+use journal::buffer::{copy_fields, copy_floats};
 use journal::call::end_before;
-use journal::check::{Survey, read_journal};
+use journal::check::read_journal;
 use journal::read::minute_of;
 use journal::record::{FIRST_CELL, distance_count};
+use refusals::Refusal;
+use rows::record::{before_count, candidate_count};
 
-// What reading a row answers: its number of candidates and of predecessor candidates and its minute, or a refusal's number.
+// What is told of a row beside the buffers: its numbers of candidates and of predecessor candidates, and its minute.
 #[derive(Clone, Copy)]
-pub enum RowRead {
-    Row(usize, usize, u32),
-    Refused(u32),
+pub struct RowRead {
+    pub candidates: usize,
+    pub before: usize,
+    pub minute: u32,
 }
 
 // The row of the record at the head of the words, where the buffers have room for it.
@@ -27,23 +30,23 @@ fn copy_row(
     parents: &mut [u32],
     scores: &mut [f64],
     distances: &mut [f64],
-) -> RowRead
+) -> Result<RowRead, Refusal>
     requires { RecordWhole words.now }
     ensures { let b = row_buffers_of elements.old intrinsics.old near.old raw_logs.old parents.old scores.old distances.old in
         let l = row_fitted b (read_row words.now) in
         (result ≡ row_answer l)
         × (row_buffers_of elements.new intrinsics.new near.new raw_logs.new parents.new scores.new distances.new ≡ filled l b) }
 {
-    let count = (words[0] % 32) as usize;
-    let before = (words[0] / 32 % 32) as usize;
+    let count = candidate_count(words);
+    let before = before_count(words);
     let number = distance_count(count, before);
-    let words_room = least(elements.len(), least(near.len(), parents.len()));
-    let floats_room = least(intrinsics.len(), least(raw_logs.len(), scores.len()));
-    if least(words_room, floats_room) < count {
-        return RowRead::Refused(15);
+    let words_room = elements.len().min(near.len().min(parents.len()));
+    let floats_room = intrinsics.len().min(raw_logs.len().min(scores.len()));
+    if words_room.min(floats_room) < count {
+        return Err(Refusal::Buffer);
     }
     if distances.len() < number {
-        return RowRead::Refused(15);
+        return Err(Refusal::Buffer);
     }
     copy_fields(words, count, 1, 1024, elements);
     copy_floats(words, FIRST_CELL + 1, 7, count, intrinsics);
@@ -52,7 +55,11 @@ fn copy_row(
     copy_fields(words, count, 2048, 32, parents);
     copy_floats(words, FIRST_CELL + 5, 7, count, scores);
     copy_floats(words, FIRST_CELL + 7 * count + 1, 2, number, distances);
-    RowRead::Row(count, before, minute_of(words))
+    Ok(RowRead {
+        candidates: count,
+        before,
+        minute: minute_of(words),
+    })
 }
 
 // A row, from 0: its minute, and its candidates' fields, parents and scores, and its distances into the buffers; or a refusal by check 7, by 13 where
@@ -67,36 +74,26 @@ pub fn read_row(
     parents: &mut [u32],
     scores: &mut [f64],
     distances: &mut [f64],
-) -> RowRead
+) -> Result<RowRead, Refusal>
     ensures { let b = row_buffers_of elements.old intrinsics.old near.old raw_logs.old parents.old scores.old distances.old in
         let l = reading journal.now row b in
         (result ≡ row_answer l)
         × (row_buffers_of elements.new intrinsics.new near.new raw_logs.new parents.new scores.new distances.new ≡ filled l b) }
 {
-    let found = read_journal(journal);
-    match found {
-        Survey::NotWellFormed => RowRead::Refused(7),
-        Survey::WellFormed {
-            rows,
-            used: _,
-            latest: _,
-            minute: _,
-        } => {
-            let number = row as usize;
-            if rows <= number {
-                return RowRead::Refused(13);
-            }
-            let place = end_before(journal, rows - number);
-            copy_row(
-                &journal[place..],
-                elements,
-                intrinsics,
-                near,
-                raw_logs,
-                parents,
-                scores,
-                distances,
-            )
-        }
+    let survey = read_journal(journal)?;
+    let number = row as usize;
+    if survey.rows <= number {
+        return Err(Refusal::Row);
     }
+    let place = end_before(journal, survey.rows - number);
+    copy_row(
+        &journal[place..],
+        elements,
+        intrinsics,
+        near,
+        raw_logs,
+        parents,
+        scores,
+        distances,
+    )
 }

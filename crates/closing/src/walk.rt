@@ -3,7 +3,8 @@ ghost use Rattle.std.specs.Prelude.{◌≡◌, ◌+◌, ◌<◌, ◌≤◌, leng
 ghost use Rattle.closing.specs.inner.Walk.{Reached, RecordLeft, first_rows, path_from, over, pair_stored, column};
 ghost use Rattle.closing.specs.Close.{pair_row, pair_candidate};
 
-use rows::record::parent_of;
+use rows::previous::NO_PARENT;
+use rows::record::{parent_of, predecessor_place};
 
 // Where it stands: so many rows are left, whose records end at a place; where the record of the latest of them that scores starts, and its candidate,
 // 31 for none; and the number of pairs found so far.
@@ -21,15 +22,14 @@ pub fn step_back(journal: &[u32], b: Back) -> Back
     requires { RecordLeft journal.now b }
     ensures { result ≡ over (first_rows journal.now b.rows) b }
 {
-    let last = b.end - 1;
-    let length = (journal[last] % 268435456) as usize;
+    let length = (journal[b.end - 1] % 268435456) as usize;
     let at = b.end - length;
     let words = &journal[at..];
     if at == b.latest {
         return Back {
             rows: b.rows - 1,
             end: at,
-            latest: (words[1] % 268435456) as usize,
+            latest: predecessor_place(words),
             candidate: parent_of(words, b.candidate as usize),
             pairs: b.pairs + 1,
         };
@@ -37,9 +37,7 @@ pub fn step_back(journal: &[u32], b: Back) -> Back
     Back {
         rows: b.rows - 1,
         end: at,
-        latest: b.latest,
-        candidate: b.candidate,
-        pairs: b.pairs,
+        ..b
     }
 }
 
@@ -49,10 +47,7 @@ pub fn path_length(journal: &[u32], start: Back) -> usize
     ensures { result ≡ start.pairs + length (path_from journal.now start) }
 {
     let mut b = start;
-    while 0 < b.rows {
-        if b.candidate == 31 {
-            return b.pairs;
-        }
+    while 0 < b.rows && b.candidate != NO_PARENT {
         b = step_back(journal, b);
     }
     b.pairs

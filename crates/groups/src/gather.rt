@@ -8,12 +8,11 @@ use closing::walk::{Back, step_back};
 use journal::read::minute_of;
 use rows::previous::{NO_PARENT, candidate_of};
 
-// A group as far as it was read, and where the walk then stands. `begun`: it has a state. `ended`: the next state is of another element.
+// A group as far as it was read, none before its first state, and where the walk then stands. `ended`: the next state is of another element.
 #[derive(Clone, Copy)]
 pub struct Gathering {
-    pub begun: bool,
+    pub group: Option<NetelementGroup>,
     pub ended: bool,
-    pub group: NetelementGroup,
     pub back: Back,
 }
 
@@ -22,13 +21,7 @@ fn goes_on(g: Gathering) -> bool
     ensures { result ≡ goes_on g }
 {
     let back = g.back;
-    if g.ended {
-        return false;
-    }
-    if back.rows == 0 {
-        return false;
-    }
-    back.candidate != NO_PARENT
+    !g.ended && back.rows != 0 && back.candidate != NO_PARENT
 }
 
 // One record: a row that scores gives a state, which begins the group, joins it, or ends it.
@@ -37,40 +30,30 @@ fn gather_one(journal: &[u32], g: Gathering) -> Gathering
     ensures { RecordTaken journal.now g result }
 {
     let back = g.back;
-    let group = g.group;
     let next = step_back(journal, back);
     if next.pairs == back.pairs {
         return Gathering {
-            begun: g.begun,
             ended: false,
-            group: group,
             back: next,
+            ..g
         };
     }
-    let at = next.end;
+    let words = &journal[next.end..];
     let row = next.rows as u32;
-    let minute = minute_of(&journal[at..]);
-    let candidate = candidate_of(&journal[at..], back.candidate as usize);
-    if g.begun {
-        if candidate.element != group.element {
-            return Gathering {
-                begun: true,
-                ended: true,
-                group: group,
-                back: back,
-            };
+    let minute = minute_of(words);
+    let candidate = candidate_of(words, back.candidate as usize);
+    let group = match g.group {
+        None => new_group(row, minute, candidate),
+        Some(group) => {
+            if candidate.element != group.element {
+                return Gathering { ended: true, ..g };
+            }
+            update_group(group, row, minute, candidate)
         }
-        return Gathering {
-            begun: true,
-            ended: false,
-            group: update_group(group, row, minute, candidate),
-            back: next,
-        };
-    }
+    };
     Gathering {
-        begun: true,
+        group: Some(group),
         ended: false,
-        group: new_group(row, minute, candidate),
         back: next,
     }
 }
@@ -80,18 +63,9 @@ pub fn gather_group(journal: &[u32], start: Back) -> Gathering
     requires { Reached journal.now start }
     ensures { Gathered journal.now start result }
 {
-    let none = NetelementGroup {
-        element: 0,
-        minute: 0,
-        min_intrinsic: 0.0,
-        max_intrinsic: 0.0,
-        first_row: 0,
-        last_row: 0,
-    };
     let mut g = Gathering {
-        begun: false,
+        group: None,
         ended: false,
-        group: none,
         back: start,
     };
     while goes_on(g) {

@@ -15,22 +15,18 @@ pub struct NetelementGroup {
     pub last_row: u32,
 }
 
+// The definitions' minimum: it differs from `f64::min` at a NaN.
 fn min(x: f64, y: f64) -> f64
     ensures { result ≡ lesser x y }
 {
-    if x < y {
-        return x;
-    }
-    y
+    if x < y { x } else { y }
 }
 
+// The definitions' maximum: it differs from `f64::max` at a NaN.
 fn max(x: f64, y: f64) -> f64
     ensures { result ≡ greater x y }
 {
-    if x < y {
-        return y;
-    }
-    x
+    if x < y { y } else { x }
 }
 
 // The group of one state: a candidate of a row.
@@ -57,11 +53,10 @@ pub fn update_group(
     ensures { result ≡ with_state (state_of row minute candidate) group }
 {
     NetelementGroup {
-        element: group.element,
         minute,
         min_intrinsic: min(candidate.intrinsic, group.min_intrinsic),
         max_intrinsic: max(candidate.intrinsic, group.max_intrinsic),
         first_row: row,
-        last_row: group.last_row,
+        ..group
     }
 }

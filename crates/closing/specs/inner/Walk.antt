@@ -1,15 +1,16 @@
 -- The walk back along the parents, record by record.
-use Rattle.std.specs.Prelude.{ℕ, suc, ◌+◌, ◌-◌, ◌<◌, ◌≤◌, ◌≡◌, cond, ltb, length, drop, set}
-use mathlib.Core.List.{List, [], ◌∷◌, map, reverse_aux}
+use Rattle.std.specs.Prelude.{ℕ, suc, ◌+◌, ◌-◌, ◌<◌, ◌≤◌, ◌≡◌, cond, ltb, length, drop, set, Some, Ok}
+use mathlib.Core.List.{List, [], ◌∷◌, map, reverse, reverse_aux}
 use Rattle.std.proofs.Math.Option.{some}
 use Rattle.journal.specs.Row.{Row, no_parent, cell_of, scores, predecessor, size_of}
 use Rattle.journal.specs.Journal.{words, predecessor_place, read_journal}
 use Rattle.journal.specs.inner.Check.{survey}
 use Rattle.journal.specs.inner.Rows.{rows_in}
-use Rattle.journal.specs.declared.check.Predecessor.TheVariants.{At}
-use Rattle.journal.specs.declared.check.Survey.TheVariants.{WellFormed}
-use Rattle.decoder.specs.Closing.{Pairs, follow}
+use Rattle.journal.specs.declared.check.Predecessor.{Predecessor}
+use Rattle.journal.specs.declared.check.Survey.{Survey}
+use Rattle.decoder.specs.Closing.{Pairs, path, follow, closing}
 use Rattle.closing.specs.Close.{PairField}
+use Rattle.closing.specs.declared.start.Start.{Start}
 use Rattle.closing.specs.declared.walk.Back.{Back}
 
 -- the first n rows of a journal that is well formed
@@ -53,8 +54,15 @@ pair_stored b c n x buffer = cond (ltb b.pairs c.pairs) (set buffer (n - c.pairs
 unfoldable pub column : PairField → Pairs → ℕ → List ℕ → List ℕ
 column f w n buffer = reverse_aux (map f w) (drop n buffer)
 
--- check 7 found so many rows and used words, and the last scoring row, of so many candidates, at a place
-pub record Scoring (s : List ℕ) (rows used place count : ℕ) : Type 0 where
-  pub row : ℕ
-  pub minute : ℕ
-  pub found : survey s ≡ WellFormed rows used (At place row count) minute
+-- ---- where the walk starts
+
+-- check 7 found these rows, and the last of them that scores
+pub record Scoring (s : List ℕ) (found : Survey) (last : Predecessor) : Type 0 where
+  pub surveyed : survey s ≡ Ok found
+  pub latest : found.latest ≡ Some last
+
+-- at the end of the best path, before its last pair
+pub record Started (s : List ℕ) (x : Start) : Type 0 where
+  pub reached : Reached s x.back
+  pub no_pairs : x.back.pairs ≡ 0
+  pub closes : closing (rows_in s) ≡ path (reverse (path_from s x.back)) x.score

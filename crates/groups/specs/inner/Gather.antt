@@ -1,5 +1,5 @@
 -- The walk back along the parents, a group at a time.
-use Rattle.std.specs.Prelude.{ℕ, ◌<◌, ◌≡◌, Bool, true, false, not, ◌&&◌, cond, List, [], ◌∷◌, ◌++◌, map, eqb}
+use Rattle.std.specs.Prelude.{ℕ, ◌<◌, ◌≡◌, Bool, true, false, not, ◌&&◌, List, [], ◌∷◌, ◌++◌, map, eqb, Some, None, option_to_list}
 use Rattle.journal.specs.Row.{no_parent}
 use Rattle.closing.specs.declared.walk.Back.{Back}
 use Rattle.journal.specs.inner.Rows.{rows_in}
@@ -23,7 +23,7 @@ groups_from s b = onto [] (states_from s b)
 
 -- the group as far as it was read
 abbrev pub group_read : Gathering → List NetelementGroup
-group_read g = cond g.begun (g.group ∷ []) []
+group_read g = option_to_list g.group
 
 -- it, and the groups still to come, where the first of their states may join it
 abbrev pub pending : List ℕ → Gathering → List NetelementGroup
@@ -34,19 +34,20 @@ goes_on g = not g.ended && (not (eqb g.back.rows 0) && not (eqb g.back.candidate
 
 -- no state joins the group any more: it stands for itself after those to come
 pub record GroupEnded (s : List ℕ) (g : Gathering) : Type 0 where
-  pub begun : g.begun ≡ true
-  pub apart : pending s g ≡ groups_from s g.back ++ (g.group ∷ [])
+  pub group : NetelementGroup
+  pub begun : g.group ≡ Some group
+  pub apart : pending s g ≡ groups_from s g.back ++ (group ∷ [])
 
 -- one record was read: from g to r
 pub record RecordTaken (s : List ℕ) (g r : Gathering) : Type 0 where
   pub reached : Reached s r.back
   pub same : pending s r ≡ pending s g
-  pub ends : r.ended ≡ true → GroupEnded s r × ((g.begun ≡ true) × (r.back ≡ g.back))
+  pub ends : r.ended ≡ true → GroupEnded s r × ((r.group ≡ g.group) × (r.back ≡ g.back))
   pub fewer : r.ended ≡ false → r.back.rows < g.back.rows
 
 -- the last of the groups still to come from b on, if there is one, and where the walk stands before it
 pub record Gathered (s : List ℕ) (b : Back) (r : Gathering) : Type 0 where
   pub reached : Reached s r.back
   pub whole : groups_from s b ≡ groups_from s r.back ++ group_read r
-  pub nothing : r.begun ≡ false → groups_from s b ≡ []
-  pub fewer : r.begun ≡ true → r.back.rows < b.rows
+  pub nothing : r.group ≡ None → groups_from s b ≡ []
+  pub fewer : {g : NetelementGroup} → r.group ≡ Some g → r.back.rows < b.rows

@@ -1,6 +1,7 @@
 -- A row and its predecessor in the journal, as the code finds them.
-use Rattle.std.specs.Prelude.{ℕ, suc, ◌+◌, ◌*◌, ◌<◌, ◌≤◌, ◌≡◌, List, [], ◌∷◌, ltb, length}
+use Rattle.std.specs.Prelude.{ℕ, suc, ◌+◌, ◌*◌, ◌<◌, ◌≤◌, ◌≡◌, List, [], ◌∷◌, ltb, length, Option as Optional, Some, None, Result, Ok, Err}
 use Rattle.std.proofs.Math.Option.{Option, none, some}
+use Rattle.refusals.specs.declared.Refusal.{Refusal}
 use Rattle.journal.specs.Lists.{each}
 use Rattle.journal.specs.Row.{Row, row_size, cell_of}
 use Rattle.journal.specs.Record.{first_cell, record_length, read_row}
@@ -9,34 +10,36 @@ use Rattle.journal.specs.inner.Check.{latest_of}
 use Rattle.journal.specs.inner.Rows.{rows_before}
 use Rattle.journal.specs.Call.{first_failed}
 use Rattle.journal.specs.declared.check.Predecessor.{Predecessor}
-use Rattle.journal.specs.declared.check.Predecessor.TheVariants.{Nothing, At}
 use Rattle.decoder.specs.Call.{known_row}
-use Rattle.steps.specs.declared.find.Found.{Found}
-use Rattle.steps.specs.declared.find.Found.TheVariants.{Refused, Alone, Linked}
+use Rattle.steps.specs.declared.find.Linked.{Linked}
 
 -- ---- their places
 
--- a row whose record starts at a place, by its predecessor
-abbrev pub linked : ℕ → Predecessor → Found
-linked place Nothing = Alone
-linked place (At before m c) = Linked place before m
+-- a row's place and its predecessor, or a refusal
+abbrev pub Found : Type 0
+Found = Result (Optional Linked) Refusal
 
-abbrev pub found_passed : List Row → ℕ → Option ℕ → Found
-found_passed rs n none = linked (suc (length (words (rows_before rs n)))) (latest_of (rows_before rs n))
-found_passed rs n (some k) = Refused k
+-- a row whose record starts at a place, by its predecessor
+abbrev pub linked : ℕ → Optional Predecessor → Optional Linked
+linked place None = None
+linked place (Some p) = Some (record { place = place; before = p.place; predecessor = p.row })
+
+abbrev pub found_passed : List Row → ℕ → Option Refusal → Found
+found_passed rs n none = Ok (linked (suc (length (words (rows_before rs n)))) (latest_of (rows_before rs n)))
+found_passed rs n (some k) = Err k
 
 abbrev pub found_read : ℕ → ℕ → Option (List Row) → Found
-found_read known n none = Refused 7
-found_read known n (some rs) = found_passed rs n (first_failed ((9, each (known_row known) rs) ∷ (13, ltb n (length rs)) ∷ []))
+found_read known n none = Err Refusal.Journal
+found_read known n (some rs) = found_passed rs n (first_failed ((Refusal.Candidate, each (known_row known) rs) ∷ (Refusal.Row, ltb n (length rs)) ∷ []))
 
 -- checks 7, 9 and 13, in a network of `known` elements, then the places
 unfoldable pub rows_found : ℕ → List ℕ → ℕ → Found
 rows_found known s n = found_read known n (read_journal s)
 
 -- and checks 1 to 5, 16 and 6 before them, with what they refuse
-abbrev pub found_checked : Option ℕ → ℕ → List ℕ → ℕ → Found
+abbrev pub found_checked : Option Refusal → ℕ → List ℕ → ℕ → Found
 found_checked none known s n = rows_found known s n
-found_checked (some k) known s n = Refused k
+found_checked (some k) known s n = Err k
 
 -- row number n stands among so many
 pub record RowStands (s : List ℕ) (rows n : ℕ) : Type 0 where
@@ -47,7 +50,7 @@ pub record RowStands (s : List ℕ) (rows n : ℕ) : Type 0 where
 
 -- the place of its record, and its predecessor
 abbrev pub found_at : ℕ → Option (List Row) → Found
-found_at n none = Refused 7
+found_at n none = Err Refusal.Journal
 found_at n (some rs) = found_passed rs n none
 
 -- ---- their records, each at the head of some words
