@@ -1,19 +1,10 @@
 // Columns of a record, stored in the first entries of lent buffers.
-ghost use Rattle.std.specs.Prelude.{◌≡◌, ◌+◌, ◌*◌, ◌/◌, ◌%◌, min, get_or};
+ghost use Rattle.std.specs.Prelude.{◌≡◌, ◌+◌, ◌*◌, ◌/◌, ◌%◌, get_or};
 ghost use Rattle.journal.specs.Record.{first_cell, float_at};
 ghost use Rattle.journal.specs.inner.Buffer.{FieldsStand, FloatsStand, entries_stored};
 
 use crate::float::float_at;
 use crate::record::FIRST_CELL;
-
-pub fn least(a: usize, b: usize) -> usize
-    ensures { result ≡ min a b }
-{
-    if a < b {
-        return a;
-    }
-    b
-}
 
 // A field of the first word of each of n candidates: what is left of the word divided by `unit`, below `limit`.
 pub fn copy_fields(words: &[u32], n: usize, unit: u32, limit: u32, buffer: &mut [u32])
@@ -30,9 +21,7 @@ pub fn copy_floats(words: &[u32], place: usize, apart: usize, n: usize, buffer: 
     requires { FloatsStand words.now place apart n buffer.old }
     ensures { buffer.new ≡ entries_stored n (λ k. float_at words.now (place + apart * k)) buffer.old }
 {
-    let mut at = place;
     for k in 0..n {
-        buffer[k] = float_at(words, at);
-        at += apart;
+        buffer[k] = float_at(words, place + apart * k);
     }
 }

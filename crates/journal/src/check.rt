@@ -1,146 +1,93 @@
 // Check 7: whether a journal is well formed, in one pass over the used words.
-ghost use Rattle.std.specs.Prelude.{cond, ◌≡◌, ◌<◌, ◌≤◌, [], length, drop};
+ghost use Rattle.std.specs.Prelude.{◌≡◌, ◌<◌, ◌≤◌, [], length, drop};
 ghost use Rattle.journal.specs.Ranges.{row_limit};
 ghost use Rattle.journal.specs.Journal.{read_rows};
 ghost use Rattle.journal.specs.inner.Check.{candidates_of, place_of, survey_of, survey};
 
 use crate::lengths::record_lengths;
-use crate::read::{Record, read_row};
+use crate::read::read_row;
+use refusals::Refusal;
 
 // The predecessor of a further row: where its record starts, its number and how many candidates it has.
 #[derive(Clone, Copy)]
-pub enum Predecessor {
-    Nothing,
-    At {
-        place: usize,
-        row: usize,
-        candidates: usize,
-    },
+pub struct Predecessor {
+    pub place: usize,
+    pub row: usize,
+    pub candidates: usize,
 }
 
 // What check 7 finds: the number of rows, of used words, the predecessor of a further row, and the minute of the last one, or 0.
 #[derive(Clone, Copy)]
-pub enum Survey {
-    NotWellFormed,
-    WellFormed {
-        rows: usize,
-        used: usize,
-        latest: Predecessor,
-        minute: u32,
-    },
+pub struct Survey {
+    pub rows: usize,
+    pub used: usize,
+    pub latest: Option<Predecessor>,
+    pub minute: u32,
 }
 
 // How many candidates it has, 0 without one.
-pub fn candidates_of(latest: Predecessor) -> usize
+pub fn candidates_of(latest: Option<Predecessor>) -> usize
     ensures { result ≡ candidates_of latest }
 {
-    match latest {
-        Predecessor::Nothing => 0,
-        Predecessor::At {
-            place: _,
-            row: _,
-            candidates,
-        } => candidates,
-    }
+    latest.map_or(0, |p| p.candidates)
 }
 
 // Where its record starts; the first word without one.
-pub fn place_of(latest: Predecessor) -> usize
+pub fn place_of(latest: Option<Predecessor>) -> usize
     ensures { result ≡ place_of latest }
 {
-    match latest {
-        Predecessor::Nothing => 0,
-        Predecessor::At {
-            place,
-            row: _,
-            candidates: _,
-        } => place,
-    }
-}
-
-// The predecessor after a further row, whose record starts at `place`.
-fn later(
-    latest: Predecessor,
-    place: usize,
-    row: usize,
-    candidates: usize,
-    scores: bool,
-) -> Predecessor
-    ensures { result ≡ cond scores (Predecessor.At place row candidates) latest }
-{
-    if scores {
-        return Predecessor::At {
-            place,
-            row,
-            candidates,
-        };
-    }
-    latest
+    latest.map_or(0, |p| p.place)
 }
 
 // Record by record over a journal of used words alone.
-pub fn walk(journal: &[u32]) -> Survey
+pub fn walk(journal: &[u32]) -> Result<Survey, Refusal>
     requires { (1 ≤ length journal.now) × (length journal.now < 268435456) }
     ensures { result ≡ survey_of (length journal.now) (read_rows row_limit [] (drop 1 journal.now)) }
 {
     let lengths = record_lengths();
-    let mut at = 1;
-    let mut rows = 0;
-    let mut latest = Predecessor::Nothing;
-    let mut reached = 0;
-    while at < journal.len() {
-        if rows == 65535 {
-            return Survey::NotWellFormed;
+    let mut survey = Survey {
+        rows: 0,
+        used: 1,
+        latest: None,
+        minute: 0,
+    };
+    while survey.used < journal.len() {
+        if survey.rows == 65535 {
+            return Err(Refusal::Journal);
         }
         let record = read_row(
-            &journal[at..],
+            &journal[survey.used..],
             &lengths,
-            place_of(latest),
-            reached,
-            candidates_of(latest),
-            rows,
-        );
-        match record {
-            Record::Whole {
-                length,
-                candidates,
-                scores,
-                minute,
-            } => {
-                reached = minute;
-                latest = later(latest, at, rows, candidates, scores);
-                at += length;
-                rows += 1;
-            }
-            Record::Bad => {
-                return Survey::NotWellFormed;
-            }
+            place_of(survey.latest),
+            survey.minute,
+            candidates_of(survey.latest),
+            survey.rows,
+        )
+        .ok_or(Refusal::Journal)?;
+        if record.scores {
+            survey.latest = Some(Predecessor {
+                place: survey.used,
+                row: survey.rows,
+                candidates: record.candidates,
+            });
         }
+        survey.used += record.length;
+        survey.rows += 1;
+        survey.minute = record.minute;
     }
-    Survey::WellFormed {
-        rows,
-        used: at,
-        latest,
-        minute: reached,
-    }
+    Ok(survey)
 }
 
-pub fn read_journal(journal: &[u32]) -> Survey
+pub fn read_journal(journal: &[u32]) -> Result<Survey, Refusal>
     ensures { result ≡ survey journal.now }
 {
     if journal.len() == 0 {
-        return Survey::NotWellFormed;
+        return Err(Refusal::Journal);
     }
     let word = journal[0];
-    if word / 268435456 != 5 {
-        return Survey::NotWellFormed;
-    }
     let used = (word % 268435456) as usize;
-    if used == 0 {
-        return Survey::NotWellFormed;
-    }
-    if journal.len() < used {
-        return Survey::NotWellFormed;
+    if word / 268435456 != 5 || used == 0 || journal.len() < used {
+        return Err(Refusal::Journal);
     }
     walk(&journal[..used])
 }

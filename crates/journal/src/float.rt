@@ -9,10 +9,7 @@ ghost use Rattle.journal.specs.Record.{float_words, float_at};
 pub fn is_finite(x: f64) -> bool
     ensures { result ≡ finite x }
 {
-    if binary64::minus_infinity() < x {
-        return x < binary64::infinity();
-    }
-    false
+    binary64::minus_infinity() < x && x < binary64::infinity()
 }
 
 // The bits of x, one pattern for every NaN.

@@ -11,10 +11,7 @@ use crate::range::{intrinsic_ok, raw_log_ok, score_ok};
 fn is_above(half: u32, bound: u32) -> bool
     ensures { result ≡ (leb 0x80000000 half && ltb half bound) }
 {
-    if half < 0x8000_0000 {
-        return false;
-    }
-    half < bound
+    0x8000_0000 <= half && half < bound
 }
 
 // An intrinsic below 1.
@@ -22,10 +19,7 @@ pub fn intrinsic_reads(words: &[u32], at: usize) -> bool
     requires { at + 1 < length words.now }
     ensures { result ≡ intrinsic_ok (float_at words.now at) }
 {
-    if words[at] < 0x3ff0_0000 {
-        return true;
-    }
-    intrinsic_ok(float_at(words, at))
+    words[at] < 0x3ff0_0000 || intrinsic_ok(float_at(words, at))
 }
 
 // A raw log above -512.
@@ -33,10 +27,7 @@ pub fn raw_log_reads(words: &[u32], at: usize) -> bool
     requires { at + 1 < length words.now }
     ensures { result ≡ raw_log_ok (float_at words.now at) }
 {
-    if is_above(words[at], 0xc080_0000) {
-        return true;
-    }
-    raw_log_ok(float_at(words, at))
+    is_above(words[at], 0xc080_0000) || raw_log_ok(float_at(words, at))
 }
 
 // A score above -(2 ^ 43), which is in range in every row.
@@ -44,10 +35,7 @@ pub fn score_reads(words: &[u32], at: usize, row: usize) -> bool
     requires { (at + 1 < length words.now) × (row < 65536) }
     ensures { result ≡ score_ok row (float_at words.now at) }
 {
-    if is_above(words[at], 0xc2a0_0000) {
-        return true;
-    }
-    score_ok(float_at(words, at), row)
+    is_above(words[at], 0xc2a0_0000) || score_ok(float_at(words, at), row)
 }
 
 // A score above minus infinity.
@@ -55,10 +43,7 @@ pub fn finite_reads(words: &[u32], at: usize) -> bool
     requires { at + 1 < length words.now }
     ensures { result ≡ finite (float_at words.now at) }
 {
-    if is_above(words[at], 0xfff0_0000) {
-        return true;
-    }
-    is_finite(float_at(words, at))
+    is_above(words[at], 0xfff0_0000) || is_finite(float_at(words, at))
 }
 
 // The greatest of the high halves of n floats from `at` on, or 0 without one.
@@ -68,10 +53,7 @@ pub fn greatest_half(words: &[u32], at: usize, n: usize) -> u32
 {
     let mut greatest = 0;
     for k in 0..n {
-        let half = words[at + 2 * k];
-        if greatest < half {
-            greatest = half;
-        }
+        greatest = greatest.max(words[at + 2 * k]);
     }
     greatest
 }

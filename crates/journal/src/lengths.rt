@@ -49,20 +49,14 @@ pub fn record_lengths() -> [u16; 289]
     RECORD_LENGTHS
 }
 
-fn word_count(x: u16) -> usize
-    ensures { result ≡ x }
-{
-    x as usize
-}
-
 // The table's entry for c candidates with p predecessor candidates.
 pub fn length_in(lengths: &[u16; 289], c: usize, p: usize) -> usize
     requires length_table { LengthTable lengths.now }
     requires c_le_candidate_limit { (c ≤ candidate_limit) × (p ≤ candidate_limit) }
-    ensures fact_1 { result ≡ record_length c p }
-    ensures fact_2 { result ≤ 629 }
+    ensures words { result ≡ record_length c p }
+    ensures few_words { result ≤ 629 }
 {
-    word_count(lengths[17 * c + p])
+    lengths[17 * c + p] as usize
 }
 
 // The record length of c candidates with p predecessor candidates.

@@ -13,10 +13,7 @@ pub fn intrinsic_ok(x: f64) -> bool
 pub fn raw_log_ok(x: f64) -> bool
     ensures { result ≡ raw_log_ok x }
 {
-    if binary64::is_minus_infinity(x) {
-        return true;
-    }
-    binary64::in_range(x, -745.0, 0.0)
+    binary64::is_minus_infinity(x) || binary64::in_range(x, -745.0, 0.0)
 }
 
 pub fn distance_ok(x: f64) -> bool
@@ -29,16 +26,7 @@ pub fn distance_ok(x: f64) -> bool
 pub fn candidate_ok(c: Candidate, known: u32) -> bool
     ensures { result ≡ candidate_ok known c }
 {
-    if known <= c.element {
-        return false;
-    }
-    if !intrinsic_ok(c.intrinsic) {
-        return false;
-    }
-    if 1 < c.near {
-        return false;
-    }
-    raw_log_ok(c.raw_log)
+    c.element < known && intrinsic_ok(c.intrinsic) && c.near <= 1 && raw_log_ok(c.raw_log)
 }
 
 // The lowest score of a row.
@@ -53,18 +41,12 @@ pub fn score_ok(x: f64, row: usize) -> bool
     requires { row < 65536 }
     ensures { result ≡ score_ok row x }
 {
-    if binary64::is_minus_infinity(x) {
-        return true;
-    }
-    binary64::in_range(x, lowest_score(row), 0.0)
+    binary64::is_minus_infinity(x) || binary64::in_range(x, lowest_score(row), 0.0)
 }
 
 // A parent with p predecessor candidates.
 pub fn parent_ok(parent: u32, p: u32) -> bool
     ensures { result ≡ parent_ok p parent }
 {
-    if parent < p {
-        return true;
-    }
-    parent == 31
+    parent < p || parent == 31
 }

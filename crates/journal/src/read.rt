@@ -14,16 +14,13 @@ use crate::lengths::length_in;
 use crate::range::{distance_ok, parent_ok};
 use crate::record::{Candidate, FIRST_CELL, distance_count};
 
-// What stands at the head of some words: no record, or a record's length, its number of candidates, whether its row scores, and its minute.
+// A record's length, its number of candidates, whether its row scores, and its minute.
 #[derive(Clone, Copy)]
-pub enum Record {
-    Bad,
-    Whole {
-        length: usize,
-        candidates: usize,
-        scores: bool,
-        minute: u32,
-    },
+pub struct Record {
+    pub length: usize,
+    pub candidates: usize,
+    pub scores: bool,
+    pub minute: u32,
 }
 
 // The minute of the record that starts with the first of the words.
@@ -38,10 +35,7 @@ pub fn minute_of(words: &[u32]) -> u32
 fn minute_reads(word: u32, since: u32) -> bool
     ensures { result ≡ minute_reads since word }
 {
-    if word / 268435456 != 8 {
-        return false;
-    }
-    since <= word % 268435456
+    word / 268435456 == 8 && since <= word % 268435456
 }
 
 // The candidate whose words start at `at`.
@@ -64,19 +58,11 @@ fn cell_reads(words: &[u32], at: usize, p: u32, row: usize) -> bool
     ensures { result ≡ well_read cell_words read_cell (cell_ok p row) (drop at words.now) }
 {
     let w = words[at];
-    if w / 65536 != 8192 {
-        return false;
-    }
-    if !intrinsic_reads(words, at + 1) {
-        return false;
-    }
-    if !raw_log_reads(words, at + 3) {
-        return false;
-    }
-    if !parent_ok(w / 2048 % 32, p) {
-        return false;
-    }
-    score_reads(words, at + 5, row)
+    w / 65536 == 8192
+        && intrinsic_reads(words, at + 1)
+        && raw_log_reads(words, at + 3)
+        && parent_ok(w / 2048 % 32, p)
+        && score_reads(words, at + 5, row)
 }
 
 // Whether those of c candidates are.
@@ -84,12 +70,10 @@ fn cells_read(words: &[u32], c: usize, p: u32, row: usize) -> bool
     requires { (first_cell + 7 * c ≤ length words.now) × (row < 65536) }
     ensures { result ≡ every_below c (λ k. well_read cell_words read_cell (cell_ok p row) (drop (first_cell + 7 * k) words.now)) }
 {
-    let mut k = 0;
-    while k < c {
+    for k in 0..c {
         if !cell_reads(words, FIRST_CELL + 7 * k, p, row) {
             return false;
         }
-        k += 1;
     }
     true
 }
@@ -107,12 +91,10 @@ fn each_distance_reads(words: &[u32], at: usize, n: usize) -> bool
     requires { at + 2 * n ≤ length words.now }
     ensures { result ≡ every_below n (λ k. well_read float_words read_distance distance_ok (drop (at + 2 * k) words.now)) }
 {
-    let mut k = 0;
-    while k < n {
+    for k in 0..n {
         if !distance_reads(words, at + 2 * k) {
             return false;
         }
-        k += 1;
     }
     true
 }
@@ -122,11 +104,7 @@ fn distances_read(words: &[u32], at: usize, n: usize) -> bool
     requires { at + 2 * n ≤ length words.now }
     ensures { result ≡ every_below n (λ k. well_read float_words read_distance distance_ok (drop (at + 2 * k) words.now)) }
 {
-    let small = greatest_half(words, at, n) < 0x4170_0000;
-    if small {
-        return true;
-    }
-    each_distance_reads(words, at, n)
+    greatest_half(words, at, n) < 0x4170_0000 || each_distance_reads(words, at, n)
 }
 
 // Whether one of the scores of c candidates is finite.
@@ -134,12 +112,10 @@ fn scores_read(words: &[u32], c: usize) -> bool
     requires { first_cell + 7 * c ≤ length words.now }
     ensures { result ≡ any_below c (λ k. finite (float_at words.now (first_cell + 7 * k + 5))) }
 {
-    let mut k = 0;
-    while k < c {
+    for k in 0..c {
         if finite_reads(words, FIRST_CELL + 7 * k + 5) {
             return true;
         }
-        k += 1;
     }
     false
 }
@@ -166,25 +142,14 @@ fn body_reads(
     requires end_value { (end ≡ record_length c p) × (end ≤ length words.now) }
     ensures { result ≡ body_reads place since c p row words.now }
 {
-    if words[1] != 0x7000_0000 + place as u32 {
-        return false;
-    }
-    if !minute_reads(words[2], since) {
-        return false;
-    }
-    if !cells_read(words, c, p as u32, row) {
-        return false;
-    }
     let n = distance_count(c, p);
     let at = FIRST_CELL + 7 * c;
-    if words[at] != 0x3000_0000 + n as u32 {
-        return false;
-    }
-    if !distances_read(words, at + 1, n) {
-        return false;
-    }
-    let last = end - 1;
-    words[last] == 0x4000_0000 + end as u32
+    words[1] == 0x7000_0000 + place as u32
+        && minute_reads(words[2], since)
+        && cells_read(words, c, p as u32, row)
+        && words[at] == 0x3000_0000 + n as u32
+        && distances_read(words, at + 1, n)
+        && words[end - 1] == 0x4000_0000 + end as u32
 }
 
 // The record at the head of the words, as this row, after one of the minute `since`, on a predecessor of q candidates, whose record starts at
@@ -196,38 +161,28 @@ pub fn read_row(
     since: u32,
     q: usize,
     row: usize,
-) -> Record
+) -> Option<Record>
     requires length_table { LengthTable lengths.now }
     requires q_le_candidate_limit { (q ≤ candidate_limit) × (row < 65536) × (place < 268435456) }
     ensures { result ≡ record_at place since q row words.now }
 {
     if words.len() == 0 {
-        return Record::Bad;
+        return None;
     }
     let head = words[0];
-    if head / 1024 != 262144 {
-        return Record::Bad;
-    }
     let c = (head % 32) as usize;
     let p = (head / 32 % 32) as usize;
-    if 16 < c {
-        return Record::Bad;
-    }
-    if p != before_of(q, c) {
-        return Record::Bad;
+    if head / 1024 != 262144 || 16 < c || p != before_of(q, c) {
+        return None;
     }
     let length = length_in(lengths, c, p);
-    if words.len() < length {
-        return Record::Bad;
+    if words.len() < length || !body_reads(words, place, since, c, p, length, row) {
+        return None;
     }
-    if !body_reads(words, place, since, c, p, length, row) {
-        return Record::Bad;
-    }
-    let scores = scores_read(words, c);
-    Record::Whole {
+    Some(Record {
         length,
         candidates: c,
-        scores,
+        scores: scores_read(words, c),
         minute: minute_of(words),
-    }
+    })
 }

@@ -27,8 +27,8 @@ pub const FIRST_CELL: usize = 3;
 // How many distances c candidates have with p predecessor candidates.
 pub fn distance_count(c: usize, p: usize) -> usize
     requires { (c < 32) × (p < 32) }
-    ensures fact_1 { result ≡ c * p }
-    ensures fact_2 { result ≤ 961 }
+    ensures pairs { result ≡ c * p }
+    ensures few_pairs { result ≤ 961 }
 {
     c * p
 }
@@ -70,10 +70,8 @@ fn put_distances(words: &mut [u32], at: usize, distances: &[f64])
 {
     let n = distances.len();
     words[at] = 0x3000_0000 + n as u32;
-    let mut k = 0;
-    while k < n {
+    for k in 0..n {
         put_float(words, at + 1 + 2 * k, distances[k]);
-        k += 1;
     }
 }
 
@@ -91,9 +89,9 @@ fn put_row(
         Entries16 fix × RowWritable row }
     requires row_in_bounds { let row = row_of (fix_in fix distances.now) parents.now scores.now p in
         (length (record_of place row) ≤ length words.old) × (place < 268435456) }
-    ensures fact_1 { let row = row_of (fix_in fix distances.now) parents.now scores.now p in
+    ensures length_told { let row = row_of (fix_in fix distances.now) parents.now scores.now p in
         result ≡ length (record_of place row) }
-    ensures fact_2 { let row = row_of (fix_in fix distances.now) parents.now scores.now p in
+    ensures record_put { let row = row_of (fix_in fix distances.now) parents.now scores.now p in
         words.new ≡ sets words.old 0 (record_of place row) }
 {
     let n = fix.count;

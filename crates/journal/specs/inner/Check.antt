@@ -1,5 +1,5 @@
 -- What the code of check 7 finds, by the definitions of reading.
-use Rattle.std.specs.Prelude.{ℕ, suc, ◌+◌, ◌-◌, ◌*◌, Bool, ◌&&◌, cond, List, [], ◌∷◌, eqb, leb, length, get_or, drop}
+use Rattle.std.specs.Prelude.{ℕ, suc, ◌+◌, ◌-◌, ◌*◌, Bool, ◌&&◌, cond, List, [], ◌∷◌, eqb, leb, length, get_or, drop, Result, Ok, Err, Option as RustOption, Some, None}
 use Rattle.std.proofs.Math.Option.{Option, none, some}
 use Rattle.lists.specs.Loops.{every_below}
 use Rattle.journal.specs.Lists.{starts}
@@ -8,11 +8,9 @@ use Rattle.journal.specs.Ranges.{distance_ok, cell_ok}
 use Rattle.journal.specs.Record.{distances_word, length_word, predecessor_word, minute_word, read_minute, first_cell, cell_words, float_words, record_length, record_of, read_cell, read_distance, read_row}
 use Rattle.journal.specs.Journal.{words, row_ok, used, read_journal}
 use Rattle.journal.specs.declared.read.Record.{Record}
-use Rattle.journal.specs.declared.read.Record.TheVariants.{Bad, Whole}
 use Rattle.journal.specs.declared.check.Predecessor.{Predecessor}
-use Rattle.journal.specs.declared.check.Predecessor.TheVariants.{Nothing, At}
 use Rattle.journal.specs.declared.check.Survey.{Survey}
-use Rattle.journal.specs.declared.check.Survey.TheVariants.{NotWellFormed, WellFormed}
+use Rattle.refusals.specs.declared.Refusal.{Refusal}
 
 -- ---- one record
 
@@ -37,33 +35,44 @@ body_reads place since c p n ws =
 
 -- what the row reader finds: the record of row number n, after a row of the minute `since`, on a predecessor of q candidates, whose record starts
 -- at `place`
-unfoldable pub record_at : ℕ → ℕ → ℕ → ℕ → List ℕ → Record
+unfoldable pub record_at : ℕ → ℕ → ℕ → ℕ → List ℕ → RustOption Record
 record_at place since q n ws =
-    cond (well_read (record_of place) read_row (row_ok since q n) ws)
-    (Whole (length (record_of place (read_row ws))) (row_size (read_row ws)) (scores (read_row ws)) (read_row ws).minute)
-    Bad
+    let r = read_row ws in
+    let found = record { length = length (record_of place r); candidates = row_size r; scores = scores r; minute = r.minute } in
+    cond (well_read (record_of place) read_row (row_ok since q n) ws) (Some found) None
 
 -- ---- the journal
 
--- the latest of these rows that scores
-unfoldable pub latest_of : List Row → Predecessor
-latest_of [] = Nothing
-latest_of (r ∷ rs) = cond (scores r) (At (suc (length (words rs))) (length rs) (row_size r)) (latest_of rs)
+-- where the predecessor's record starts, its number and how many candidates it has
+abbrev pub predecessor_at : ℕ → ℕ → ℕ → RustOption Predecessor
+predecessor_at place row candidates = Some (record { place = place; row = row; candidates = candidates })
 
--- how many candidates it has
-abbrev pub candidates_of : Predecessor → ℕ
-candidates_of Nothing = 0
-candidates_of (At place row candidates) = candidates
+-- the latest of these rows that scores
+unfoldable pub latest_of : List Row → RustOption Predecessor
+latest_of [] = None
+latest_of (r ∷ rs) = cond (scores r) (predecessor_at (suc (length (words rs))) (length rs) (row_size r)) (latest_of rs)
+
+-- how many candidates it has, 0 without one
+abbrev pub candidates_of : RustOption Predecessor → ℕ
+candidates_of None = 0
+candidates_of (Some p) = p.candidates
 
 -- where its record starts, 0 without one
-abbrev pub place_of : Predecessor → ℕ
-place_of Nothing = 0
-place_of (At place row candidates) = place
+abbrev pub place_of : RustOption Predecessor → ℕ
+place_of None = 0
+place_of (Some p) = p.place
 
-abbrev pub survey_of : ℕ → Option (List Row) → Survey
-survey_of n none = NotWellFormed
-survey_of n (some rs) = WellFormed (length rs) n (latest_of rs) (latest_minute rs)
+-- the number of rows, of used words, the predecessor of a further row and the latest minute
+abbrev pub well_formed : ℕ → ℕ → RustOption Predecessor → ℕ → Result Survey Refusal
+well_formed rows used latest minute = Ok (record { rows = rows; used = used; latest = latest; minute = minute })
+
+abbrev pub not_well_formed : Result Survey Refusal
+not_well_formed = Err Refusal.Journal
+
+abbrev pub survey_of : ℕ → Option (List Row) → Result Survey Refusal
+survey_of n none = not_well_formed
+survey_of n (some rs) = well_formed (length rs) n (latest_of rs) (latest_minute rs)
 
 -- check 7: what `read_journal` reads, by its number of rows, the used words, the predecessor of a further row and the latest minute
-unfoldable pub survey : List ℕ → Survey
+unfoldable pub survey : List ℕ → Result Survey Refusal
 survey s = survey_of (used s) (read_journal s)
