@@ -38,7 +38,7 @@ body_reads place since c p n ws =
 unfoldable pub record_at : ℕ → ℕ → ℕ → ℕ → List ℕ → RustOption Record
 record_at place since q n ws =
     let r = read_row ws in
-    let found = record { length = length (record_of place r); candidates = row_size r; scores = scores r; minute = r.minute } in
+    let found : Record = record { length = length (record_of place r); candidates = row_size r; scores = scores r; minute = r.minute } in
     cond (well_read (record_of place) read_row (row_ok since q n) ws) (Some found) None
 
 -- ---- the journal
