@@ -1,6 +1,6 @@
 -- A row and its predecessor in the journal, as the code finds them.
-use Rattle.std.specs.Prelude.{ℕ, suc, ◌+◌, ◌*◌, ◌<◌, ◌≤◌, ◌≡◌, List, [], ◌∷◌, ltb, length, Option as Optional, Some, None, Result, Ok, Err}
-use Rattle.std.proofs.Math.Option.{Option, none, some}
+use Rattle.std.specs.Prelude.{ℕ, suc, ◌+◌, ◌*◌, ◌<◌, ◌≤◌, ◌≡◌, List, [], ◌∷◌, ltb, length, Option, Some, None, Result, Ok, Err}
+use Rattle.std.proofs.Math.Option.{Option as Maybe, none, some}
 use Rattle.refusals.specs.declared.Refusal.{Refusal}
 use Rattle.journal.specs.Lists.{each}
 use Rattle.journal.specs.Row.{Row, row_size, cell_of}
@@ -17,18 +17,18 @@ use Rattle.steps.specs.declared.find.Linked.{Linked}
 
 -- a row's place and its predecessor, or a refusal
 abbrev pub Found : Type 0
-Found = Result (Optional Linked) Refusal
+Found = Result (Option Linked) Refusal
 
 -- a row whose record starts at a place, by its predecessor
-abbrev pub linked : ℕ → Optional Predecessor → Optional Linked
+abbrev pub linked : ℕ → Option Predecessor → Option Linked
 linked place None = None
 linked place (Some p) = Some (record { place = place; before = p.place; predecessor = p.row })
 
-abbrev pub found_passed : List Row → ℕ → Option Refusal → Found
+abbrev pub found_passed : List Row → ℕ → Maybe Refusal → Found
 found_passed rs n none = Ok (linked (suc (length (words (rows_before rs n)))) (latest_of (rows_before rs n)))
 found_passed rs n (some k) = Err k
 
-abbrev pub found_read : ℕ → ℕ → Option (List Row) → Found
+abbrev pub found_read : ℕ → ℕ → Maybe (List Row) → Found
 found_read known n none = Err Refusal.Journal
 found_read known n (some rs) = found_passed rs n (first_failed ((Refusal.Candidate, each (known_row known) rs) ∷ (Refusal.Row, ltb n (length rs)) ∷ []))
 
@@ -37,7 +37,7 @@ unfoldable pub rows_found : ℕ → List ℕ → ℕ → Found
 rows_found known s n = found_read known n (read_journal s)
 
 -- and checks 1 to 5, 16 and 6 before them, with what they refuse
-abbrev pub found_checked : Option Refusal → ℕ → List ℕ → ℕ → Found
+abbrev pub found_checked : Maybe Refusal → ℕ → List ℕ → ℕ → Found
 found_checked none known s n = rows_found known s n
 found_checked (some k) known s n = Err k
 
@@ -49,7 +49,7 @@ pub record RowStands (s : List ℕ) (rows n : ℕ) : Type 0 where
   pub below : n < rows
 
 -- the place of its record, and its predecessor
-abbrev pub found_at : ℕ → Option (List Row) → Found
+abbrev pub found_at : ℕ → Maybe (List Row) → Found
 found_at n none = Err Refusal.Journal
 found_at n (some rs) = found_passed rs n none
 
