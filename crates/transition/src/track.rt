@@ -10,7 +10,7 @@ pub struct Track<'a> {
     pub flags: &'a [u32],
 }
 
-impl Model for Track<'_> {
+impl<'a> Model for Track<'a> {
     ghost use Rattle.transition.specs.inner.Track.{TrackLists};
 
     ghost Value = { TrackLists };
