@@ -1,5 +1,4 @@
 -- What the contracts of private functions and the laws of `segments` cite beside the believed definitions.
-pub mod Array
 pub mod Building
 pub mod Oscillation
 pub mod Trail

@@ -1,19 +1,20 @@
 -- What a turn does to the stage, to the entry and to the words of the decisions.
-use Rattle.std.specs.Prelude.{ℕ, zero, suc, ◌+◌, ◌-◌, ◌*◌, ◌/◌, ◌<◌, ◌≤◌, Bool, true, false, cond, List, ltb, leb, eqb}
+use Rattle.std.specs.Prelude.{ℕ, ◌+◌, ◌-◌, ◌*◌, ◌/◌, ◌<◌, ◌≤◌, Bool, true, false, cond, List, ltb, leb, eqb, Option, Some, None, Result, Ok, Err}
 use Rattle.std.proofs.lemmas.List.Edits.{sets}
 use Rattle.segments.specs.Segment.{zero_segment, segment_ok}
 use Rattle.segments.specs.Collapse.{merged}
 use Rattle.segments.specs.inner.Oscillation.{empty_gap, widened, is_oscillation, stored_words}
 use Rattle.segments.specs.declared.segment.Segment.{Segment}
 use Rattle.segments.specs.declared.oscillation.Gap.{Gap}
+use Rattle.refusals.specs.declared.Refusal.{Refusal}
+use Rattle.segments.specs.declared.turn.Phase.{Phase}
 use Rattle.segments.specs.declared.turn.Stage.{Stage}
 use Rattle.segments.specs.declared.collapse.Collapsed.{Collapsed}
-use Rattle.segments.specs.declared.collapse.Collapsed.TheVariants.{Done, Refused}
 
 -- ---- a stage with some fields changed
 
 -- on to a phase, at an entry
-abbrev pub go : Stage → ℕ → ℕ → Stage
+abbrev pub go : Stage → Phase → ℕ → Stage
 go s p i = record { phase = p; at = i; total = s.total; fits = s.fits; count = s.count; read = s.read; write = s.write; decided = s.decided; changed = s.changed; refusal = s.refusal; current = s.current; gap = s.gap; out = s.out }
 
 -- what is stored this turn
@@ -37,28 +38,53 @@ abbrev pub leaves : Stage → ℕ → Stage
 leaves s n = record { phase = s.phase; at = s.at; total = s.total; fits = s.fits; count = n; read = s.read; write = s.write; decided = s.decided; changed = s.changed; refusal = s.refusal; current = s.current; gap = s.gap; out = s.out }
 
 -- over, with a check that failed
-abbrev pub fails : Stage → ℕ → Stage
-fails s k = record { phase = 0; at = s.at; total = s.total; fits = s.fits; count = s.count; read = s.read; write = s.write; decided = s.decided; changed = s.changed; refusal = k; current = s.current; gap = s.gap; out = s.out }
+abbrev pub fails : Stage → Refusal → Stage
+fails s k = record { phase = Phase.Over; at = s.at; total = s.total; fits = s.fits; count = s.count; read = s.read; write = s.write; decided = s.decided; changed = s.changed; refusal = Some k; current = s.current; gap = s.gap; out = s.out }
 
--- ---- turns, by phase: 0 over, 1 checking, 2 loading, 3 looking, 4 keeping, 5 clearing
+-- ---- phases
+
+-- those in which a turn stores an entry
+unfoldable pub is_storing : Phase → Bool
+is_storing Phase.Over = false
+is_storing Phase.Checking = false
+is_storing Phase.Loading = false
+is_storing Phase.Looking = false
+is_storing Phase.Keeping = true
+is_storing Phase.Clearing = true
+
+-- a list without entries has none to check
+abbrev pub first_phase : ℕ → Phase
+first_phase n = cond (eqb n 0) Phase.Over Phase.Checking
+
+-- one thing for each phase
+module _ {ℓ} {A : Type ℓ} where
+  unfoldable pub phased : Phase → A → A → A → A → A → A → A
+  phased Phase.Over o a b c d e = o
+  phased Phase.Checking o a b c d e = a
+  phased Phase.Loading o a b c d e = b
+  phased Phase.Looking o a b c d e = c
+  phased Phase.Keeping o a b c d e = d
+  phased Phase.Clearing o a b c d e = e
+
+-- ---- turns
 
 unfoldable pub stage_begun : ℕ → ℕ → Stage
-stage_begun n m = record { phase = cond (eqb n 0) 0 1; at = 0; total = n; fits = leb n (m / 6); count = n; read = 0; write = 0; decided = 0; changed = false; refusal = 0; current = zero_segment; gap = empty_gap; out = zero_segment }
+stage_begun n m = record { phase = first_phase n; at = 0; total = n; fits = leb n (m / 6); count = n; read = 0; write = 0; decided = 0; changed = false; refusal = None; current = zero_segment; gap = empty_gap; out = zero_segment }
 
 -- on to the next after those between; no further than the pass's entries, or than a fourth between
 unfoldable pub sought : Stage → Stage
 sought s =
-    cond (leb s.gap.count 3) (cond (ltb s.gap.count (s.count - s.read)) (go s 3 (s.read + s.gap.count)) (go s 4 s.write))
-    (go s 4 s.write)
+    cond (leb s.gap.count 3) (cond (ltb s.gap.count (s.count - s.read)) (go s Phase.Looking (s.read + s.gap.count)) (go s Phase.Keeping s.write))
+    (go s Phase.Keeping s.write)
 
 -- an entry that passes check 14: the next one, or check 15 and the first pass
 unfoldable pub accepted : Stage → Stage
 accepted s =
     cond (ltb (s.read + 1) s.total) (go (stands s (s.read + 1) s.write) s.phase (s.read + 1))
-    (cond s.fits (cond (ltb s.total 3) (go s 0 s.at) (go (stands s 0 s.write) 2 0)) (fails s 15))
+    (cond s.fits (cond (ltb s.total 3) (go s Phase.Over s.at) (go (stands s 0 s.write) Phase.Loading 0)) (fails s Refusal.Buffer))
 
 unfoldable pub segment_checked : Stage → Segment → Stage
-segment_checked s v = cond (segment_ok v) (accepted s) (fails s 14)
+segment_checked s v = cond (segment_ok v) (accepted s) (fails s Refusal.Segment)
 
 unfoldable pub loaded : Stage → Segment → Stage
 loaded s v = sought (holds (stands s (s.read + 1) s.write) v empty_gap)
@@ -75,7 +101,7 @@ gap_removed s v =
 
 unfoldable pub looked : Stage → Segment → Stage
 looked s v =
-    cond (eqb v.element s.current.element) (cond (is_oscillation s.current s.gap) (gap_removed s v) (go s 4 s.write))
+    cond (eqb v.element s.current.element) (cond (is_oscillation s.current s.gap) (gap_removed s v) (go s Phase.Keeping s.write))
     (seen s v)
 
 unfoldable pub looked_words : Stage → Segment → List ℕ → List ℕ
@@ -87,31 +113,21 @@ looked_words s v ws =
 -- the current segment is stored: the next is loaded, or a new pass begins, or what is past the count is cleared
 unfoldable pub current_kept : Stage → Stage
 current_kept s =
-    cond (ltb s.read s.count) (go (stands (stores s s.current) s.read (s.write + 1)) 2 s.read)
-    (cond s.changed (go (counts (stands (leaves (stores s s.current) (s.write + 1)) 0 0) s.decided false) 2 0)
-    (cond (ltb (s.write + 1) s.total) (go (stands (leaves (stores s s.current) (s.write + 1)) s.read (s.write + 1)) 5 (s.write + 1))
-    (go (stands (leaves (stores s s.current) (s.write + 1)) s.read (s.write + 1)) 0 s.at)))
+    cond (ltb s.read s.count) (go (stands (stores s s.current) s.read (s.write + 1)) Phase.Loading s.read)
+    (cond s.changed (go (counts (stands (leaves (stores s s.current) (s.write + 1)) 0 0) s.decided false) Phase.Loading 0)
+    (cond (ltb (s.write + 1) s.total) (go (stands (leaves (stores s s.current) (s.write + 1)) s.read (s.write + 1)) Phase.Clearing (s.write + 1))
+    (go (stands (leaves (stores s s.current) (s.write + 1)) s.read (s.write + 1)) Phase.Over s.at)))
 
 unfoldable pub cleared : Stage → Stage
 cleared s =
     cond (ltb (s.write + 1) s.total) (go (stands (stores s zero_segment) s.read (s.write + 1)) s.phase (s.write + 1))
-    (go (stands (stores s zero_segment) s.read (s.write + 1)) 0 s.at)
-
--- one thing for each of the phases 1 to 5
-module _ {ℓ} {A : Type ℓ} where
-  unfoldable pub phased : ℕ → A → A → A → A → A → A
-  phased zero a b c d e = e
-  phased (suc zero) a b c d e = a
-  phased (suc (suc zero)) a b c d e = b
-  phased (suc (suc (suc zero))) a b c d e = c
-  phased (suc (suc (suc (suc zero)))) a b c d e = d
-  phased (suc (suc (suc (suc (suc p))))) a b c d e = e
+    (go (stands (stores s zero_segment) s.read (s.write + 1)) Phase.Over s.at)
 
 unfoldable pub turned : Stage → Segment → Stage
-turned s v = phased s.phase (segment_checked s v) (loaded s v) (looked s v) (current_kept s) (cleared s)
+turned s v = phased s.phase s (segment_checked s v) (loaded s v) (looked s v) (current_kept s) (cleared s)
 
 unfoldable pub turned_words : Stage → Segment → List ℕ → List ℕ
-turned_words s v ws = phased s.phase ws ws (looked_words s v ws) ws ws
+turned_words s v ws = phased s.phase ws ws ws (looked_words s v ws) ws ws
 
 -- ---- what a turn asks of the numbers, where the buffer has n words
 
@@ -127,9 +143,14 @@ pub record KeepReady (s : Stage) : Type 0 where
   pub room : s.count ≤ s.total
 
 unfoldable pub Ready : Stage → ℕ → Type 0
-Ready s n = phased s.phase (s.read < s.total) (s.read < s.count) (LookReady s n) (KeepReady s) (s.write < s.total)
+Ready s n = phased s.phase (Unit {0}) (s.read < s.total) (s.read < s.count) (LookReady s n) (KeepReady s) (s.write < s.total)
 
 -- ---- what the call answers at the end
 
-unfoldable pub finished : Stage → Collapsed
-finished s = cond (eqb s.refusal 0) (Done s.count s.decided) (Refused s.refusal)
+-- a refusal, or else the answer
+abbrev pub unless_refused : {A : Type 0} → Option Refusal → A → Result A Refusal
+unless_refused None a = Ok a
+unless_refused (Some r) a = Err r
+
+unfoldable pub finished : Stage → Result Collapsed Refusal
+finished s = unless_refused s.refusal (record { segments = s.count; decisions = s.decided })
