@@ -1,8 +1,10 @@
 // Building, before the first turn: all checks, and how many segments there are.
-ghost use Rattle.std.specs.Prelude.{◌≡◌};
-ghost use Rattle.network.specs.Network.{Network, network_of, checked};
+ghost use Rattle.std.specs.Prelude.{◌≡◌, IfOk, IfErr, Ok, Err};
+ghost use Rattle.network.specs.Network.{checked};
 ghost use Rattle.closing.specs.inner.Walk.{Scoring};
-ghost use Rattle.segments.specs.inner.Building.{refusing, Opened, OpenedAt};
+ghost use Rattle.segments.specs.Build.{segments_fitted, path_segments, building};
+ghost use Rattle.segments.specs.inner.Building.{nothing_left, Opened, OpenedOn};
+ghost use Rattle.journal.specs.inner.Rows.{rows_in};
 
 use crate::build::Building;
 use crate::segment::zero_segment;
@@ -12,12 +14,14 @@ use closing::walk::Back;
 use decoder::known::rows_known;
 use groups::group::NetelementGroup;
 use journal::check::{Predecessor, Survey, read_journal};
-use network::check::{Checked, check_network};
+use network::check::check_network;
+use network::lent::Network;
+use refusals::Refusal;
 use rows::previous::best_previous;
 
-// Nothing to store: a refusal, or 0 where there are no segments.
-fn nothing_left(refusal: u32) -> Building
-    ensures { result ≡ refusing refusal }
+// There are no segments.
+fn nothing_left() -> Building
+    ensures { result ≡ nothing_left }
 {
     let group = NetelementGroup {
         element: 0,
@@ -34,212 +38,67 @@ fn nothing_left(refusal: u32) -> Building
         candidate: 0,
         pairs: 0,
     };
-    let bridges = no_bridges();
     let trail = Trail {
         more: false,
         group,
-        bridges,
+        bridges: no_bridges(),
         back,
     };
-    let out = zero_segment();
     Building {
-        refusal,
-        count: 0,
         left: 0,
         waiting: 0,
         trail,
-        out,
+        out: zero_segment(),
     }
 }
 
-// From the last scoring row, of `candidates`, whose record starts at a place of the journal: check 15, on a network that was checked.
+// From the last scoring row: check 15, on a network that was checked.
 fn begin_at(
-    lengths: &[f64],
-    headings: &[f64],
-    flags: &[u32],
-    from: &[u32],
-    to: &[u32],
-    from_side: &[u32],
-    to_side: &[u32],
-    forward: &[u32],
-    backward: &[u32],
-    window_counts: &[u32],
-    window_firsts: &[u32],
-    window_lasts: &[u32],
+    net: &Network<'_>,
     journal: &[u32],
-    standing: usize,
-    used: usize,
-    place: usize,
-    candidates: usize,
+    survey: Survey,
+    last: Predecessor,
     room: usize,
-) -> Building
-    requires net_value { let net = network_of lengths.now headings.now flags.now from.now to.now from_side.now to_side.now forward.now backward.now
-        window_counts.now window_firsts.now window_lasts.now in
-        checked net ≡ Checked.Accepted }
-    requires scoring { Scoring journal.now standing used place candidates }
-    ensures { let net = network_of lengths.now headings.now flags.now from.now to.now from_side.now to_side.now forward.now backward.now
-        window_counts.now window_firsts.now window_lasts.now in
-        OpenedAt net journal.now room result }
+) -> Result<Building, Refusal>
+    requires net_value { checked net.now ≡ Ok tt }
+    requires scoring { Scoring journal.now survey.rows survey.used last.place last.candidates }
+    ensures begun { let outcome = segments_fitted room (path_segments net.now (rows_in journal.now)) in
+        IfOk result (λ b. OpenedOn outcome net.now journal.now room b) }
+    ensures refused { let outcome = segments_fitted room (path_segments net.now (rows_in journal.now)) in IfErr result (λ r. outcome ≡ Err r) }
 {
-    let best = best_previous(&journal[place..], candidates);
+    let best = best_previous(&journal[last.place..], last.candidates);
     let start = Back {
-        rows: standing,
-        end: used,
-        latest: place,
+        rows: survey.rows,
+        end: survey.used,
+        latest: last.place,
         candidate: best.candidate,
         pairs: 0,
     };
     let trail = last_group(journal, start);
-    let count = count_segments(
-        lengths,
-        headings,
-        flags,
-        from,
-        to,
-        from_side,
-        to_side,
-        forward,
-        backward,
-        window_counts,
-        window_firsts,
-        window_lasts,
-        journal,
-        trail,
-    );
-    if room < count {
-        return nothing_left(15);
+    let left = count_segments(net, journal, trail);
+    if room < left {
+        return Err(Refusal::Buffer);
     }
-    let out = zero_segment();
-    Building {
-        refusal: 0,
-        count,
-        left: count,
+    Ok(Building {
+        left,
         waiting: 0,
         trail,
-        out,
-    }
-}
-
-// Checks 7 and 9, on a network that was checked.
-fn begin_read(
-    lengths: &[f64],
-    headings: &[f64],
-    flags: &[u32],
-    from: &[u32],
-    to: &[u32],
-    from_side: &[u32],
-    to_side: &[u32],
-    forward: &[u32],
-    backward: &[u32],
-    window_counts: &[u32],
-    window_firsts: &[u32],
-    window_lasts: &[u32],
-    journal: &[u32],
-    room: usize,
-) -> Building
-    requires { let net = network_of lengths.now headings.now flags.now from.now to.now from_side.now to_side.now forward.now backward.now
-        window_counts.now window_firsts.now window_lasts.now in
-        checked net ≡ Checked.Accepted }
-    ensures { let net = network_of lengths.now headings.now flags.now from.now to.now from_side.now to_side.now forward.now backward.now
-        window_counts.now window_firsts.now window_lasts.now in
-        Opened net journal.now room result }
-{
-    let found = read_journal(journal);
-    match found {
-        Survey::NotWellFormed => nothing_left(7),
-        Survey::WellFormed {
-            rows,
-            used,
-            latest,
-            minute: _,
-        } => {
-            if !rows_known(journal, rows, used, lengths.len() as u32) {
-                return nothing_left(9);
-            }
-            match latest {
-                Predecessor::Nothing => nothing_left(0),
-                Predecessor::At {
-                    place,
-                    row: _,
-                    candidates,
-                } => begin_at(
-                    lengths,
-                    headings,
-                    flags,
-                    from,
-                    to,
-                    from_side,
-                    to_side,
-                    forward,
-                    backward,
-                    window_counts,
-                    window_firsts,
-                    window_lasts,
-                    journal,
-                    rows,
-                    used,
-                    place,
-                    candidates,
-                    room,
-                ),
-            }
-        }
-    }
+        out: zero_segment(),
+    })
 }
 
 // Before the first turn, for a buffer with so much room: all checks are made and the segments are counted.
-pub fn begin(
-    lengths: &[f64],
-    headings: &[f64],
-    flags: &[u32],
-    from: &[u32],
-    to: &[u32],
-    from_side: &[u32],
-    to_side: &[u32],
-    forward: &[u32],
-    backward: &[u32],
-    window_counts: &[u32],
-    window_firsts: &[u32],
-    window_lasts: &[u32],
-    journal: &[u32],
-    room: usize,
-) -> Building
-    ensures { let net = network_of lengths.now headings.now flags.now
-        from.now to.now from_side.now to_side.now forward.now backward.now
-        window_counts.now window_firsts.now window_lasts.now in
-        Opened net journal.now room result }
+pub fn begin(net: &Network<'_>, journal: &[u32], room: usize) -> Result<Building, Refusal>
+    ensures begun { IfOk result (λ b. Opened net.now journal.now room b) }
+    ensures refused { IfErr result (λ r. building net.now journal.now room ≡ Err r) }
 {
-    let answer = check_network(
-        lengths,
-        headings,
-        flags,
-        from,
-        to,
-        from_side,
-        to_side,
-        forward,
-        backward,
-        window_counts,
-        window_firsts,
-        window_lasts,
-    );
-    match answer {
-        Checked::Accepted => begin_read(
-            lengths,
-            headings,
-            flags,
-            from,
-            to,
-            from_side,
-            to_side,
-            forward,
-            backward,
-            window_counts,
-            window_firsts,
-            window_lasts,
-            journal,
-            room,
-        ),
-        Checked::Refused(k) => nothing_left(k),
+    check_network(net)?;
+    let survey = read_journal(journal)?;
+    if !rows_known(journal, survey.rows, survey.used, net.lengths.len() as u32) {
+        return Err(Refusal::Candidate);
+    }
+    match survey.latest {
+        None => Ok(nothing_left()),
+        Some(last) => begin_at(net, journal, survey, last, room),
     }
 }
