@@ -1,12 +1,14 @@
 // A journal replayed: whether feeding would have written its rows.
 ghost use Rattle.std.specs.Prelude.{◌≡◌};
-ghost use Rattle.network.specs.Network.{network_of, known_count};
+ghost use Rattle.network.specs.Network.{known_count};
 ghost use Rattle.transition.specs.Step.{transition};
 ghost use Rattle.decoder.specs.Refusal.{refusal_of};
 ghost use Rattle.replaying.specs.Replay.{replaying};
-ghost use Rattle.host.specs.Status.{replay_status, replay_row, settings_of};
+ghost use Rattle.host.specs.Lent.{network_of, settings_of};
+ghost use Rattle.host.specs.Status.{replay_status, replay_row};
 
-use crate::status::of_replay;
+use crate::lent::network;
+use crate::status::{DIFFERS, DONE};
 use replaying::replay::replay;
 use transition::step::Settings;
 
@@ -39,8 +41,7 @@ pub extern "C" fn box_replay(
         (result ≡ replay_status answer)
         × (row.new ≡ replay_row answer row.old) }
 {
-    let settings = Settings { beta, scale };
-    let answer = replay(
+    let net = network(
         lengths,
         headings,
         flags,
@@ -53,8 +54,14 @@ pub extern "C" fn box_replay(
         window_counts,
         window_firsts,
         window_lasts,
-        settings,
-        journal,
     );
-    of_replay(answer, row)
+    let settings = Settings { beta, scale };
+    match replay(&net, settings, journal) {
+        Ok(None) => DONE,
+        Ok(Some(number)) => {
+            *row = number;
+            DIFFERS
+        }
+        Err(refusal) => refusal.number(),
+    }
 }
