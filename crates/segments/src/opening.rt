@@ -12,7 +12,6 @@ use crate::trail::{Trail, count_segments, last_group};
 use bridges::insert::no_bridges;
 use closing::walk::Back;
 use decoder::known::rows_known;
-use groups::group::NetelementGroup;
 use journal::check::{Predecessor, Survey, read_journal};
 use network::check::check_network;
 use network::lent::Network;
@@ -23,14 +22,6 @@ use rows::previous::best_previous;
 fn nothing_left() -> Building
     ensures { result ≡ nothing_left }
 {
-    let group = NetelementGroup {
-        element: 0,
-        minute: 0,
-        min_intrinsic: 0.0,
-        max_intrinsic: 0.0,
-        first_row: 0,
-        last_row: 0,
-    };
     let back = Back {
         rows: 0,
         end: 0,
@@ -39,8 +30,7 @@ fn nothing_left() -> Building
         pairs: 0,
     };
     let trail = Trail {
-        more: false,
-        group,
+        group: None,
         bridges: no_bridges(),
         back,
     };
@@ -60,7 +50,7 @@ fn begin_at(
     last: Predecessor,
     room: usize,
 ) -> Result<Building, Refusal>
-    requires net_value { checked net.now ≡ Ok tt }
+    requires accepted { checked net.now ≡ Ok tt }
     requires scoring { Scoring journal.now survey.rows survey.used last.place last.candidates }
     ensures begun { let outcome = segments_fitted room (path_segments net.now (rows_in journal.now)) in
         IfOk result (λ b. OpenedOn outcome net.now journal.now room b) }
