@@ -17,6 +17,7 @@ pub struct Gathering {
 }
 
 // Whether there may be more states of the group.
+#[tactic(auto, unfolding(crate::specs::inner::Gather::goes_on))]
 fn goes_on(g: Gathering) -> bool
     ensures { result ≡ goes_on g }
 {

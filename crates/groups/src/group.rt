@@ -16,6 +16,7 @@ pub struct NetelementGroup {
 }
 
 // The definitions' minimum: it differs from `f64::min` at a NaN.
+#[tactic(auto, unfolding(crate::specs::Groups::lesser))]
 fn min(x: f64, y: f64) -> f64
     ensures { result ≡ lesser x y }
 {
@@ -23,6 +24,7 @@ fn min(x: f64, y: f64) -> f64
 }
 
 // The definitions' maximum: it differs from `f64::max` at a NaN.
+#[tactic(auto, unfolding(crate::specs::Groups::greater))]
 fn max(x: f64, y: f64) -> f64
     ensures { result ≡ greater x y }
 {
@@ -44,6 +46,7 @@ pub fn new_group(row: u32, minute: u32, candidate: Candidate) -> NetelementGroup
 }
 
 // The group with the state before it.
+#[tactic(auto, unfolding(crate::specs::Groups::with_state))]
 pub fn update_group(
     group: NetelementGroup,
     row: u32,
