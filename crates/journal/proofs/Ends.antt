@@ -5,6 +5,7 @@ use native.Mathlib.Numerals.{add-one}
 use mathlib.Core.Path.{◌≡◌, refl, sym, ap, ◌∙◌, subst}
 use mathlib.Core.List.{List, [], ◌∷◌, ◌++◌, append_assoc}
 use mathlib.Core.Option.{Option, none, some}
+use Rattle.std.specs.Prelude.{Option as RustOption, Ok, Err}
 use borrow.Author.Tests.{le-leb, lt-leb}
 use lib.ListN.{length, get_or, drop, set, length-append, length-drop}
 use lib.Seq.{drop-cons, get_or_at}
@@ -13,13 +14,14 @@ use Rattle.journal.specs.Row.{Row, no_row, row_size, latest_minute}
 use Rattle.journal.specs.Record.{length_word, used_word, head_of, cell_words, distances_words, record_length, record_of}
 use Rattle.journal.specs.Journal.{words, predecessor_place, record_on, journal, used, read_journal}
 use Rattle.journal.specs.WellFormed.{RowFits, Obey, WellFormed as Formed}
-use Rattle.journal.specs.inner.Check.{latest_of, survey_of, survey}
+use Rattle.journal.specs.inner.Check.{latest_of, well_formed, not_well_formed, survey_of, survey}
 use Rattle.journal.specs.Call.{recounted, striking}
 use Rattle.journal.specs.inner.Strike.{RowsAtLeast, end_of}
-use Rattle.journal.specs.declared.call.Answer.{Answer}
-use Rattle.journal.specs.declared.call.Answer.TheVariants.{Done, Refused}
+use Rattle.refusals.specs.Refusals.{Checked}
+use Rattle.refusals.specs.declared.Refusal.{Refusal}
 use Rattle.journal.specs.declared.check.Predecessor.{Predecessor}
-use Rattle.journal.specs.declared.check.Survey.TheVariants.{NotWellFormed, WellFormed}
+use Rattle.journal.specs.declared.check.Survey.{Survey}
+use Rattle.journal.proofs.Lists.{same-ok}
 use Rattle.journal.proofs.Reading.{length-record, record-small, words_small, words-drop, length-journal}
 use Rattle.journal.proofs.WellFormed.{well-formed, used-well}
 
@@ -125,7 +127,7 @@ end-small s n st =
 
 -- ---- what check 7 found, in terms of rows
 
-pub record Surveyed (s : List ℕ) (n u : ℕ) (p : Predecessor) (m : ℕ) : Type 0 where
+pub record Surveyed (s : List ℕ) (n u : ℕ) (p : RustOption Predecessor) (m : ℕ) : Type 0 where
   pub rows : List Row
   pub reads : read_journal s ≡ some rows
   pub counted : length rows ≡ n
@@ -133,44 +135,53 @@ pub record Surveyed (s : List ℕ) (n u : ℕ) (p : Predecessor) (m : ℕ) : Typ
   pub latest : latest_of rows ≡ p
   pub minute : latest_minute rows ≡ m
 
-pub survey-rows : (s : List ℕ) (n u : ℕ) (p : Predecessor) (m : ℕ) → survey s ≡ WellFormed n u p m → Surveyed s n u p m
+pub survey-rows : (s : List ℕ) (n u : ℕ) (p : RustOption Predecessor) (m : ℕ) → survey s ≡ well_formed n u p m → Surveyed s n u p m
 unfolding survey
 survey-rows s n u p m e = go (read_journal s) refl e
   where
-    go : (o : Option (List Row)) → read_journal s ≡ o → survey_of (used s) o ≡ WellFormed n u p m → Surveyed s n u p m
+    go : (o : Option (List Row)) → read_journal s ≡ o → survey_of (used s) o ≡ well_formed n u p m → Surveyed s n u p m
     go none q k = let z : ◌≡◌ {A = ℕ} 0 1 = cc in absurd (omega arith)
-    go (some rs) q k = record { rows = rs; reads = q; counted = cc; ends = cc; latest = cc; minute = cc }
+    go (some rs) q k =
+        let same = same-ok k in
+        record {
+          rows = rs;
+          reads = q;
+          counted = ap (λ (f : Survey). f.rows) same;
+          ends = ap (λ (f : Survey). f.used) same;
+          latest = ap (λ (f : Survey). f.latest) same;
+          minute = ap (λ (f : Survey). f.minute) same;
+        }
 
-pub survey-no : (s : List ℕ) → survey s ≡ NotWellFormed → read_journal s ≡ none
+pub survey-no : (s : List ℕ) → survey s ≡ not_well_formed → read_journal s ≡ none
 unfolding survey
 survey-no s e = go (read_journal s) refl e
   where
-    go : (o : Option (List Row)) → read_journal s ≡ o → survey_of (used s) o ≡ NotWellFormed → read_journal s ≡ none
+    go : (o : Option (List Row)) → read_journal s ≡ o → survey_of (used s) o ≡ not_well_formed → read_journal s ≡ none
     go none q k = q
     go (some rs) q k = let z : ◌≡◌ {A = ℕ} 0 1 = cc in absurd (omega arith)
 
 -- ---- striking
 
 -- what the call answers, and what it leaves
-abbrev pub Struck : List ℕ → ℕ → Answer → List ℕ → Type 0
+abbrev pub Struck : List ℕ → ℕ → Checked → List ℕ → Type 0
 Struck s n a t = (a ≡ (striking s n).0) × (t ≡ (striking s n).1)
 
-pub struck-not : (s : List ℕ) (n : ℕ) → survey s ≡ NotWellFormed → Struck s n (Refused 7) s
+pub struck-not : (s : List ℕ) (n : ℕ) → survey s ≡ not_well_formed → Struck s n (Err Refusal.Journal) s
 unfolding striking
 struck-not s n e = rw (survey-no s e) (refl, refl)
 
-module _ (s : List ℕ) (n rows u : ℕ) (p : Predecessor) (m : ℕ) (e : survey s ≡ WellFormed rows u p m) where
+module _ (s : List ℕ) (n rows u : ℕ) (p : RustOption Predecessor) (m : ℕ) (e : survey s ≡ well_formed rows u p m) where
   pub struck-stand : n ≤ rows → RowsAtLeast s n
   struck-stand h = let r = survey-rows s rows u p m e in record { rows = r.rows; reads = r.reads; enough = omega (arith, r.counted) }
 
-  pub struck-more : rows < n → Struck s n (Refused 13) s
+  pub struck-more : rows < n → Struck s n (Err Refusal.Row) s
   unfolding striking
   struck-more h =
       let r = survey-rows s rows u p m e in
       let l : length r.rows < n = omega (arith, r.counted) in
       rw (r.reads, lt-leb n (length r.rows) l) (refl, refl)
 
-  pub struck-done : n ≤ rows → (end : ℕ) → end ≡ end_of s n → Struck s n Done (set s 0 (0x50000000 + end))
+  pub struck-done : n ≤ rows → (end : ℕ) → end ≡ end_of s n → Struck s n (Ok tt) (set s 0 (0x50000000 + end))
   unfolding striking recounted end_of
   struck-done h end q =
       let r = survey-rows s rows u p m e in

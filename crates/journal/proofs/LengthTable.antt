@@ -12,14 +12,13 @@ use Rattle.lists.proofs.Loops.{every-at}
 use Rattle.binary64.proofs.Order.{taken}
 use Rattle.journal.specs.Ranges.{candidate_limit}
 use Rattle.journal.specs.Record.{record_length}
-use Rattle.journal.specs.inner.LengthTable.{LengthTable}
 
 -- entry k has the length of k / 17 candidates with k % 17 predecessor candidates
 abbrev pub entry_right : List ℕ → ℕ → Bool
 entry_right t k = eqb (get_or t k 0) (record_length (k / 17) (k % 17))
 
-pub table-rule : (t : List ℕ) → every_below 289 (entry_right t) ≡ true → LengthTable t
-unfolding LengthTable
+-- so it gives the length of c candidates with p predecessor candidates at 17 c + p
+pub table-rule : (t : List ℕ) → every_below 289 (entry_right t) ≡ true → (c p : ℕ) → c ≤ candidate_limit → p ≤ candidate_limit → get_or t (17 * c + p) 0 ≡ record_length c p
 table-rule t h c p few few-before =
     let k = 17 * c + p in
     let row : k / 17 ≡ c = omega arith in

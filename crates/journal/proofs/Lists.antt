@@ -7,6 +7,7 @@ use mathlib.Core.Bool.{Bool, true, false, cond}
 use mathlib.Core.List.{List, [], ◌∷◌, ◌++◌, append_assoc}
 use mathlib.Core.Option.{none, some}
 use mathlib.Core.Logic.{⊎_elim}
+use Rattle.std.specs.Prelude.{Result, Ok}
 use lib.Dec.{T, eqb, eqb→eq, eqb_refl}
 use lib.ListN.{length, get_or, set, drop, length-append}
 use lib.Seq.{get_or-set_same, get_or-set_other}
@@ -26,6 +27,9 @@ some-none {A = A} {a = a} e = absurd (omega (arith, zero_one))
   where
     zero_one : ◌≡◌ {A = ℕ} 0 1
     zero_one = cc
+
+pub same-ok : {A E : Type 0} {x y : A} → ◌≡◌ {A = Result A E} (Ok x) (Ok y) → x ≡ y
+same-ok e = cc
 
 -- ---- every entry
 

@@ -12,9 +12,10 @@ use Rattle.journal.specs.Row.{Row, row_size, scores, predecessor}
 use Rattle.journal.specs.Record.{predecessor_word, used_word, record_of, read_row}
 use Rattle.journal.specs.Journal.{words, predecessor_place, record_on, read_journal}
 use Rattle.journal.specs.WellFormed.{Obey, Names}
-use Rattle.journal.specs.inner.Check.{latest_of, place_of}
+use Rattle.journal.specs.inner.Check.{predecessor_at, latest_of, place_of}
 use Rattle.journal.specs.declared.check.Predecessor.{Predecessor}
-use Rattle.journal.specs.declared.check.Predecessor.TheVariants.{Nothing, At}
+use Rattle.std.specs.Prelude.{Option as RustOption, Some, None}
+use Rattle.std.proofs.lemmas.Option.{same_Some}
 use Rattle.journal.proofs.Reading.{words-drop, read-row}
 use Rattle.journal.proofs.Walk.{latest-place}
 use Rattle.journal.proofs.Ends.{formed, obey-drop, words-cons, journal-split}
@@ -65,24 +66,35 @@ pub record Latest (rs : List Row) (place row candidates : ℕ) : Type 0 where
   pub numbered : row ≡ length earlier
   pub many : candidates ≡ row_size latest
 
-pub latest-some : (rs : List Row) (place row candidates : ℕ) → latest_of rs ≡ At place row candidates → Latest rs place row candidates
+pub latest-some : (rs : List Row) (place row candidates : ℕ) → latest_of rs ≡ predecessor_at place row candidates → Latest rs place row candidates
 unfolding latest_of predecessor
 latest-some [] place row candidates e = let z : ◌≡◌ {A = ℕ} 0 1 = cc in absurd (omega arith)
 latest-some (r ∷ rs) place row candidates e = go (scores r) refl (latest-some rs place row candidates) e
   where
-    go : (b : Bool) → scores r ≡ b → (latest_of rs ≡ At place row candidates → Latest rs place row candidates)
-        → cond b (At (suc (length (words rs))) (length rs) (row_size r)) (latest_of rs) ≡ At place row candidates → Latest (r ∷ rs) place row candidates
-    go true q ih k = record { after = 0; latest = r; earlier = rs; stands = refl; is = rw q; placed = cc; numbered = cc; many = cc }
+    go : (b : Bool) → scores r ≡ b → (latest_of rs ≡ predecessor_at place row candidates → Latest rs place row candidates)
+        → cond b (predecessor_at (suc (length (words rs))) (length rs) (row_size r)) (latest_of rs) ≡ predecessor_at place row candidates → Latest (r ∷ rs) place row candidates
+    go true q ih k =
+        let same = sym (same_Some _ _ k) in
+        record {
+          after = 0;
+          latest = r;
+          earlier = rs;
+          stands = refl;
+          is = rw q;
+          placed = ap (λ (p : Predecessor). p.place) same;
+          numbered = ap (λ (p : Predecessor). p.row) same;
+          many = ap (λ (p : Predecessor). p.candidates) same;
+        }
     go false q ih k =
         let l = ih k in
         record { after = suc l.after; latest = l.latest; earlier = l.earlier; stands = l.stands; is = rw q l.is; placed = l.placed; numbered = l.numbered; many = l.many }
 
-pub latest-none : (rs : List Row) → latest_of rs ≡ Nothing → predecessor rs ≡ none
+pub latest-none : (rs : List Row) → latest_of rs ≡ None → predecessor rs ≡ none
 unfolding latest_of predecessor
 latest-none [] e = refl
 latest-none (r ∷ rs) e = go (scores r) (latest-none rs) e
   where
-    go : (b : Bool) → (latest_of rs ≡ Nothing → predecessor rs ≡ none) → cond b (At (suc (length (words rs))) (length rs) (row_size r)) (latest_of rs) ≡ Nothing → cond b (some r) (predecessor rs) ≡ none
+    go : (b : Bool) → (latest_of rs ≡ None → predecessor rs ≡ none) → cond b (predecessor_at (suc (length (words rs))) (length rs) (row_size r)) (latest_of rs) ≡ None → cond b (some r) (predecessor rs) ≡ none
     go true ih k = let z : ◌≡◌ {A = ℕ} 0 1 = cc in absurd (omega arith)
     go false ih k = ih k
 
@@ -100,11 +112,11 @@ module _ (s : List ℕ) (rs : List Row) (e : read_journal s ≡ some rs) (k : �
   pub predecessor-named : Names s (get_or (drop (suc (length (words qs))) s) 1 0) (predecessor qs)
   predecessor-named = go (latest_of qs) refl
     where
-      placed : {l : Predecessor} → latest_of qs ≡ l → get_or (drop (suc (length (words qs))) s) 1 0 ≡ predecessor_word (place_of l)
+      placed : {l : RustOption Predecessor} → latest_of qs ≡ l → get_or (drop (suc (length (words qs))) s) 1 0 ≡ predecessor_word (place_of l)
       placed {l} f = row-names s rs e k q qs d ∙ ap predecessor_word (sym (latest-place qs) ∙ ap place_of f)
 
-      go : (l : Predecessor) → latest_of qs ≡ l → Names s (get_or (drop (suc (length (words qs))) s) 1 0) (predecessor qs)
-      go Nothing f = rw (latest-none qs f) (placed f)
-      go (At place row candidates) f =
-          let l = latest-some qs place row candidates f in
-          rw l.is (place, omega (arith, l.placed), placed f, ap (λ (n : ℕ). read_row (drop n s)) l.placed ∙ earlier-row l.after l.latest l.earlier l.stands)
+      go : (l : RustOption Predecessor) → latest_of qs ≡ l → Names s (get_or (drop (suc (length (words qs))) s) 1 0) (predecessor qs)
+      go None f = rw (latest-none qs f) (placed f)
+      go (Some p) f =
+          let l = latest-some qs p.place p.row p.candidates f in
+          rw l.is (p.place, omega (arith, l.placed), placed f, ap (λ (n : ℕ). read_row (drop n s)) l.placed ∙ earlier-row l.after l.latest l.earlier l.stands)

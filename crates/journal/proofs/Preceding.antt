@@ -5,31 +5,31 @@ use mathlib.Core.Path.{◌≡◌, refl, sym, ap, ◌∙◌}
 use mathlib.Core.Bool.{Bool, true, false, cond}
 use mathlib.Core.List.{List, [], ◌∷◌}
 use mathlib.Core.Option.{Option, none, some}
+use Rattle.std.specs.Prelude.{Ok, Err, Option as RustOption, Some, None}
 use lib.ListN.{length, get_or}
 use Rattle.journal.specs.Row.{Row, row_size, scores, predecessor, predecessor_number}
 use Rattle.journal.specs.Journal.{words}
 use Rattle.journal.specs.Call.{preceding_of, preceding}
-use Rattle.journal.specs.inner.Check.{latest_of, survey}
-use Rattle.journal.specs.declared.call.Preceding.{Preceding}
-use Rattle.journal.specs.declared.call.Preceding.TheVariants.{Nothing, Row as Told, Refused}
+use Rattle.journal.specs.inner.Check.{predecessor_at, latest_of, well_formed, not_well_formed, survey}
+use Rattle.refusals.specs.declared.Refusal.{Refusal}
+use Rattle.journal.specs.declared.call.PrecedingRow.{PrecedingRow}
 use Rattle.journal.specs.declared.check.Predecessor.{Predecessor}
-use Rattle.journal.specs.declared.check.Predecessor.TheVariants.{Nothing as NoRow, At}
-use Rattle.journal.specs.declared.check.Survey.TheVariants.{NotWellFormed, WellFormed}
+use Rattle.std.proofs.lemmas.Option.{same_Some}
 use Rattle.journal.proofs.Lists.{some-none}
 use Rattle.journal.proofs.Ends.{formed, survey-rows, survey-no}
 
 -- what is told of the row that check 7 found
-abbrev pub told : Predecessor → Preceding
-told NoRow = Nothing
-told (At place row candidates) = Told row candidates
+abbrev pub told : RustOption Predecessor → RustOption PrecedingRow
+told None = None
+told (Some p) = Some (record { row = p.row; candidates = p.candidates })
 
 latest-told : (rs : List Row) → told (latest_of rs) ≡ preceding_of (predecessor_number rs) (predecessor rs)
 unfolding latest_of predecessor predecessor_number
 latest-told [] = refl
 latest-told (r ∷ rs) = go (scores r) (latest-told rs)
   where
-    new : Predecessor
-    new = At (suc (length (words rs))) (length rs) (row_size r)
+    new : RustOption Predecessor
+    new = predecessor_at (suc (length (words rs))) (length rs) (row_size r)
 
     go : (b : Bool) → told (latest_of rs) ≡ preceding_of (predecessor_number rs) (predecessor rs)
         → told (cond b new (latest_of rs)) ≡ preceding_of (cond b (length rs) (predecessor_number rs)) (cond b (some r) (predecessor rs))
@@ -55,24 +55,26 @@ number_at (r ∷ rs) p other e = go (scores r) e (number_at rs p other)
         (omega (arith, v.0), rw next v.1)
 
 -- so the row that check 7 found is one of the rows
-latest-inside : (rs : List Row) (place row c : ℕ) → latest_of rs ≡ At place row c → row < length rs
+latest-inside : (rs : List Row) (place row c : ℕ) → latest_of rs ≡ predecessor_at place row c → row < length rs
 latest-inside rs place row c e = go (predecessor rs) refl (ap told (sym e) ∙ latest-told rs)
   where
-    go : (o : Option Row) → predecessor rs ≡ o → Told row c ≡ preceding_of (predecessor_number rs) o → row < length rs
+    go : (o : Option Row) → predecessor rs ≡ o → told (predecessor_at 0 row c) ≡ preceding_of (predecessor_number rs) o → row < length rs
     go none q k = let z : ◌≡◌ {A = ℕ} 0 1 = cc in absurd (omega arith)
-    go (some p) q k = let same : row ≡ predecessor_number rs = cc in omega (arith, (number_at rs p p q).0)
+    go (some p) q k =
+        let same : row ≡ predecessor_number rs = ap (λ (r : PrecedingRow). r.row) (same_Some _ _ k) in
+        omega (arith, (number_at rs p p q).0)
 
-pub preceding-not : (s : List ℕ) → survey s ≡ NotWellFormed → Refused 7 ≡ preceding s
+pub preceding-not : (s : List ℕ) → survey s ≡ not_well_formed → Err Refusal.Journal ≡ preceding s
 unfolding preceding
 preceding-not s e = rw (survey-no s e)
 
-module _ (s : List ℕ) (rows u : ℕ) (p : Predecessor) (m : ℕ) (e : survey s ≡ WellFormed rows u p m) where
-  pub preceding-told : (q : Predecessor) → p ≡ q → told q ≡ preceding s
+module _ (s : List ℕ) (rows u : ℕ) (p : RustOption Predecessor) (m : ℕ) (e : survey s ≡ well_formed rows u p m) where
+  pub preceding-told : (q : RustOption Predecessor) → p ≡ q → Ok (told q) ≡ preceding s
   unfolding preceding
-  preceding-told q h = let r = survey-rows s rows u p m e in ap told (sym (r.latest ∙ h)) ∙ latest-told r.rows ∙ rw r.reads
+  preceding-told q h = let r = survey-rows s rows u p m e in ap Ok (ap told (sym (r.latest ∙ h)) ∙ latest-told r.rows) ∙ rw r.reads
 
   -- at most 65,535 rows stand
-  pub row_fits : (place row c : ℕ) → p ≡ At place row c → row < 65536
+  pub row_fits : (place row c : ℕ) → p ≡ predecessor_at place row c → row < 65536
   row_fits place row c q =
       let r = survey-rows s rows u p m e in
       omega (arith, latest-inside r.rows place row c (r.latest ∙ q), (formed s r.rows r.reads).1)

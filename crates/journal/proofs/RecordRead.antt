@@ -4,6 +4,7 @@ use native.Mathlib.Omega.{arith}
 use mathlib.Core.Path.{◌≡◌, refl, sym, ap, ◌∙◌}
 use mathlib.Core.Bool.{Bool, true, false, ◌&&◌, cond}
 use mathlib.Core.List.{List, [], ◌∷◌}
+use Rattle.std.specs.Prelude.{Option as RustOption, None}
 use lib.Dec.{leb, eqb}
 use lib.ListN.{length, get_or, drop}
 use lib.Seq.{drop-drop}
@@ -15,9 +16,8 @@ use Rattle.journal.specs.Row.{Cell, Row, no_cell, row_size, cell_of, score_of, s
 use Rattle.journal.specs.Ranges.{candidate_limit}
 use Rattle.journal.specs.Record.{first_cell, record_length, record_of, float_at, read_cell, read_distance, head_count, head_before, read_minute, read_row}
 use Rattle.journal.specs.Journal.{row_ok}
-use Rattle.journal.specs.inner.Check.{well_read, body_reads, record_at}
+use Rattle.journal.specs.inner.Check.{well_read, body_reads, whole_record, record_at}
 use Rattle.journal.specs.declared.read.Record.{Record}
-use Rattle.journal.specs.declared.read.Record.TheVariants.{Bad, Whole}
 use Rattle.journal.proofs.Reading.{length-record}
 use Rattle.journal.proofs.Tests.{drop-float}
 use Rattle.journal.proofs.Records.{length-each, get_or-each, row_at, row_is, size_is, number_is, record-test}
@@ -66,7 +66,7 @@ cond-and : {A : Type 0} (a b : Bool) (x y : A) → cond (a && b) x y ≡ cond a 
 cond-and true b x y = refl
 cond-and false b x y = refl
 
-pub record-none : (place since q n : ℕ) (ws : List ℕ) → length ws ≡ 0 → record_at place since q n ws ≡ Bad
+pub record-none : (place since q n : ℕ) (ws : List ℕ) → length ws ≡ 0 → record_at place since q n ws ≡ None
 record-none place since q n [] e = unfold record_at well_read record_of in refl
 record-none place since q n (w ∷ ws) e = absurd (omega arith)
 
@@ -83,10 +83,10 @@ length_at place w body =
     length-record place (row_at w body) (number_is w body ∙ ap (λ (k : ℕ). k * head_before w) (sym (size_is w body)))
     ∙ ap (λ (k : ℕ). record_length k (head_before w)) (size_is w body)
 
-abbrev pub found : ℕ → ℕ → List ℕ → Record
-found c p ws = Whole (record_length c p) c (any_below c (λ k. finite (float_at ws (first_cell + 7 * k + 5)))) (read_minute (get_or ws 2 0))
+abbrev pub found : ℕ → ℕ → List ℕ → RustOption Record
+found c p ws = whole_record (record_length c p) c (any_below c (λ k. finite (float_at ws (first_cell + 7 * k + 5)))) (read_minute (get_or ws 2 0))
 
-found_at : (place w : ℕ) (body : List ℕ) → Whole (length (record_of place (row_at w body))) (row_size (row_at w body)) (scores (row_at w body)) (row_at w body).minute ≡ found (head_count w) (head_before w) (w ∷ body)
+found_at : (place w : ℕ) (body : List ℕ) → whole_record (length (record_of place (row_at w body))) (row_size (row_at w body)) (scores (row_at w body)) (row_at w body).minute ≡ found (head_count w) (head_before w) (w ∷ body)
 found_at place w body = cc (length_at place w body, size_is w body, scores-at w body)
 
 -- test by test
@@ -96,11 +96,11 @@ pub record-at : (place since q n : ℕ) (ws : List ℕ) → 0 < length ws
     (cond (leb (head_count (get_or ws 0 0)) candidate_limit)
     (cond (eqb (head_before (get_or ws 0 0)) (before_of q (head_count (get_or ws 0 0))))
     (cond (leb (record_length (head_count (get_or ws 0 0)) (head_before (get_or ws 0 0))) (length ws))
-    (cond (body_reads place since (head_count (get_or ws 0 0)) (head_before (get_or ws 0 0)) n ws) (found (head_count (get_or ws 0 0)) (head_before (get_or ws 0 0)) ws) Bad)
-    Bad)
-    Bad)
-    Bad)
-    Bad
+    (cond (body_reads place since (head_count (get_or ws 0 0)) (head_before (get_or ws 0 0)) n ws) (found (head_count (get_or ws 0 0)) (head_before (get_or ws 0 0)) ws) None)
+    None)
+    None)
+    None)
+    None
 record-at place since q n [] h = absurd (omega arith)
 record-at place since q n (w ∷ body) h =
     let c = head_count w in
@@ -108,17 +108,17 @@ record-at place since q n (w ∷ body) h =
     let r = found c p (w ∷ body) in
     let b3 = leb (record_length c p) (suc (length body)) in
     let b4 = body_reads place since c p n (w ∷ body) in
-    let whole : record_at place since q n (w ∷ body) ≡ cond (well_read (record_of place) read_row (row_ok since q n) (w ∷ body)) (Whole (length (record_of place (read_row (w ∷ body)))) (row_size (read_row (w ∷ body))) (scores (read_row (w ∷ body))) (read_row (w ∷ body)).minute) Bad = unfold record_at in refl in
+    let whole : record_at place since q n (w ∷ body) ≡ cond (well_read (record_of place) read_row (row_ok since q n) (w ∷ body)) (whole_record (length (record_of place (read_row (w ∷ body)))) (row_size (read_row (w ∷ body))) (scores (read_row (w ∷ body))) (read_row (w ∷ body)).minute) None = unfold record_at in refl in
     whole
-    ∙ ap (λ (x : Row). cond (well_read (record_of place) read_row (row_ok since q n) (w ∷ body)) (Whole (length (record_of place x)) (row_size x) (scores x) x.minute) Bad) (row_is w body)
-    ∙ ap (λ (x : Record). cond (well_read (record_of place) read_row (row_ok since q n) (w ∷ body)) x Bad) (found_at place w body)
-    ∙ ap (λ (b : Bool). cond b r Bad) (record-test place since q n w body)
-    ∙ cond-and (eqb (w / 1024) 262144) (leb c candidate_limit && (eqb p (before_of q c) && (b3 && b4))) r Bad
-    ∙ ap (λ (x : Record). cond (eqb (w / 1024) 262144) x Bad)
-    (cond-and (leb c candidate_limit) (eqb p (before_of q c) && (b3 && b4)) r Bad
-    ∙ ap (λ (x : Record). cond (leb c candidate_limit) x Bad)
-    (cond-and (eqb p (before_of q c)) (b3 && b4) r Bad
-    ∙ ap (λ (x : Record). cond (eqb p (before_of q c)) x Bad) (cond-and b3 b4 r Bad)))
+    ∙ ap (λ (x : Row). cond (well_read (record_of place) read_row (row_ok since q n) (w ∷ body)) (whole_record (length (record_of place x)) (row_size x) (scores x) x.minute) None) (row_is w body)
+    ∙ ap (λ (x : RustOption Record). cond (well_read (record_of place) read_row (row_ok since q n) (w ∷ body)) x None) (found_at place w body)
+    ∙ ap (λ (b : Bool). cond b r None) (record-test place since q n w body)
+    ∙ cond-and (eqb (w / 1024) 262144) (leb c candidate_limit && (eqb p (before_of q c) && (b3 && b4))) r None
+    ∙ ap (λ (x : RustOption Record). cond (eqb (w / 1024) 262144) x None)
+    (cond-and (leb c candidate_limit) (eqb p (before_of q c) && (b3 && b4)) r None
+    ∙ ap (λ (x : RustOption Record). cond (leb c candidate_limit) x None)
+    (cond-and (eqb p (before_of q c)) (b3 && b4) r None
+    ∙ ap (λ (x : RustOption Record). cond (eqb p (before_of q c)) x None) (cond-and b3 b4 r None)))
 
 -- by what each test gives
 pub record-by : (place since q n : ℕ) (ws : List ℕ) (a b d e f : Bool) → 0 < length ws
@@ -127,5 +127,5 @@ pub record-by : (place since q n : ℕ) (ws : List ℕ) (a b d e f : Bool) → 0
     → eqb (head_before (get_or ws 0 0)) (before_of q (head_count (get_or ws 0 0))) ≡ d
     → leb (record_length (head_count (get_or ws 0 0)) (head_before (get_or ws 0 0))) (length ws) ≡ e
     → body_reads place since (head_count (get_or ws 0 0)) (head_before (get_or ws 0 0)) n ws ≡ f
-    → cond a (cond b (cond d (cond e (cond f (found (head_count (get_or ws 0 0)) (head_before (get_or ws 0 0)) ws) Bad) Bad) Bad) Bad) Bad ≡ record_at place since q n ws
+    → cond a (cond b (cond d (cond e (cond f (found (head_count (get_or ws 0 0)) (head_before (get_or ws 0 0)) ws) None) None) None) None) None ≡ record_at place since q n ws
 record-by place since q n ws a b d e f h i j k l m = sym (record-at place since q n ws h ∙ rw (i, j, k, l, m))

@@ -6,21 +6,21 @@ use mathlib.Core.Path.{◌≡◌, refl, sym, ap, ◌∙◌}
 use mathlib.Core.Bool.{Bool, true, false, ◌&&◌, cond}
 use mathlib.Core.List.{List, [], ◌∷◌}
 use mathlib.Core.Option.{Option, none, some}
+use Rattle.std.specs.Prelude.{Option as RustOption, None}
 use lib.Dec.{T, eqb, leb}
 use lib.ListN.{length, get_or, take, drop, length-append, length-drop, drop_of_length-le}
 use lib.Seq.{drop-drop}
 use lib.Ieee.Fits.{and_l, and_r}
+use Rattle.std.proofs.lemmas.Option.{same_Some}
 use Rattle.binary64.proofs.Order.{taken}
 use Rattle.journal.specs.Lists.{starts}
 use Rattle.journal.specs.Row.{Row, row_size, scores, predecessor, size_of, latest_minute}
 use Rattle.journal.specs.Ranges.{candidate_limit, row_limit}
 use Rattle.journal.specs.Record.{used_word, read_row}
 use Rattle.journal.specs.Journal.{words, predecessor_place, record_on, row_ok, record_ok, read_rows, used, used_words, read_journal}
-use Rattle.journal.specs.inner.Check.{well_read, record_at, latest_of, candidates_of, place_of, survey_of, survey}
-use Rattle.journal.specs.declared.read.Record.TheVariants.{Bad, Whole}
+use Rattle.journal.specs.inner.Check.{well_read, whole_record, record_at, predecessor_at, latest_of, candidates_of, place_of, well_formed, not_well_formed, survey_of, survey}
+use Rattle.journal.specs.declared.read.Record.{Record}
 use Rattle.journal.specs.declared.check.Predecessor.{Predecessor}
-use Rattle.journal.specs.declared.check.Predecessor.TheVariants.{Nothing, At}
-use Rattle.journal.specs.declared.check.Survey.TheVariants.{NotWellFormed, WellFormed}
 use Rattle.journal.proofs.Lists.{starts-split}
 use Rattle.journal.proofs.Rules.{row-rules}
 use Rattle.journal.proofs.Reading.{record-least, read_at, read-end}
@@ -35,8 +35,8 @@ unfolding latest_of predecessor predecessor_place
 latest-both [] = (refl, refl)
 latest-both (r ∷ rs) = go (scores r) (latest-both rs)
   where
-    new : Predecessor
-    new = At (suc (length (words rs))) (length rs) (row_size r)
+    new : RustOption Predecessor
+    new = predecessor_at (suc (length (words rs))) (length rs) (row_size r)
 
     go : (b : Bool) → (candidates_of (latest_of rs) ≡ size_of (predecessor rs)) × (place_of (latest_of rs) ≡ predecessor_place rs)
         → (candidates_of (cond b new (latest_of rs)) ≡ size_of (cond b (some r) (predecessor rs))) × (place_of (cond b new (latest_of rs)) ≡ cond b (suc (length (words rs))) (predecessor_place rs))
@@ -80,20 +80,20 @@ module _ (r : Row) (rs : List Row) where
       go true q = absurd (n (rw q))
       go false q = refl
 
-latest-new : (r : Row) (rs : List Row) → latest_of (r ∷ rs) ≡ cond (scores r) (At (suc (length (words rs))) (length rs) (row_size r)) (latest_of rs)
+latest-new : (r : Row) (rs : List Row) → latest_of (r ∷ rs) ≡ cond (scores r) (predecessor_at (suc (length (words rs))) (length rs) (row_size r)) (latest_of rs)
 unfolding latest_of
 latest-new r rs = refl
 
 -- ---- one record
 
-whole-bad : {A : Type 0} {l c m : ℕ} {s : Bool} → Bad ≡ Whole l c s m → A
+whole-bad : {A : Type 0} {l c m : ℕ} {s : Bool} → None ≡ whole_record l c s m → A
 whole-bad e = let z : ◌≡◌ {A = ℕ} 0 1 = cc in absurd (omega arith)
 
 module _ (rs : List Row) (ws : List ℕ) where
   abbrev passes : Bool
   passes = record_ok rs (read_row ws) ws
 
-  is_ok : record_at (predecessor_place rs) (latest_minute rs) (size_of (predecessor rs)) (length rs) ws ≡ cond passes (Whole (length (record_on rs (read_row ws))) (row_size (read_row ws)) (scores (read_row ws)) (read_row ws).minute) Bad
+  is_ok : record_at (predecessor_place rs) (latest_minute rs) (size_of (predecessor rs)) (length rs) ws ≡ cond passes (whole_record (length (record_on rs (read_row ws))) (row_size (read_row ws)) (scores (read_row ws)) (read_row ws).minute) None
   unfolding record_at well_read
   is_ok = refl
 
@@ -105,17 +105,19 @@ module _ (rs : List Row) (ws : List ℕ) where
     pub minute : m ≡ (read_row ws).minute
     pub ok : T (record_ok rs (read_row ws) ws)
 
-  found : (l c : ℕ) (s : Bool) (m : ℕ) → record_at (predecessor_place rs) (latest_minute rs) (size_of (predecessor rs)) (length rs) ws ≡ Whole l c s m → Found l c s m
+  found : (l c : ℕ) (s : Bool) (m : ℕ) → record_at (predecessor_place rs) (latest_minute rs) (size_of (predecessor rs)) (length rs) ws ≡ whole_record l c s m → Found l c s m
   found l c s m e = go passes refl (sym is_ok ∙ e)
     where
-      go : (b : Bool) → passes ≡ b → cond b (Whole (length (record_on rs (read_row ws))) (row_size (read_row ws)) (scores (read_row ws)) (read_row ws).minute) Bad ≡ Whole l c s m → Found l c s m
-      go true q k = record { long = cc; many = cc; score = cc; minute = cc; ok = taken q }
+      go : (b : Bool) → passes ≡ b → cond b (whole_record (length (record_on rs (read_row ws))) (row_size (read_row ws)) (scores (read_row ws)) (read_row ws).minute) None ≡ whole_record l c s m → Found l c s m
+      go true q k =
+          let same = sym (same_Some _ _ k) in
+          record { long = ap (λ (r : Record). r.length) same; many = ap (λ (r : Record). r.candidates) same; score = ap (λ (r : Record). r.scores) same; minute = ap (λ (r : Record). r.minute) same; ok = taken q }
       go false q k = whole-bad k
 
-  bad : record_at (predecessor_place rs) (latest_minute rs) (size_of (predecessor rs)) (length rs) ws ≡ Bad → record_ok rs (read_row ws) ws ≡ false
+  bad : record_at (predecessor_place rs) (latest_minute rs) (size_of (predecessor rs)) (length rs) ws ≡ None → record_ok rs (read_row ws) ws ≡ false
   bad e = go passes refl (sym is_ok ∙ e)
     where
-      go : (b : Bool) → passes ≡ b → cond b (Whole (length (record_on rs (read_row ws))) (row_size (read_row ws)) (scores (read_row ws)) (read_row ws).minute) Bad ≡ Bad → passes ≡ false
+      go : (b : Bool) → passes ≡ b → cond b (whole_record (length (record_on rs (read_row ws))) (row_size (read_row ws)) (scores (read_row ws)) (read_row ws).minute) None ≡ None → passes ≡ false
       go true q k = whole-bad (sym k)
       go false q k = q
 
@@ -134,12 +136,12 @@ module _ (rs : List Row) (ws : List ℕ) where
 -- ---- the walk
 
 -- what the row reader is asked, which is lent `&journal[at..]`
-pub record-asked : (journal : List ℕ) (latest : Predecessor) (reached at rows place q : ℕ) → place ≡ place_of latest → q ≡ candidates_of latest
+pub record-asked : (journal : List ℕ) (latest : RustOption Predecessor) (reached at rows place q : ℕ) → place ≡ place_of latest → q ≡ candidates_of latest
     → record_at (place_of latest) reached (candidates_of latest) rows (drop at journal) ≡ record_at place reached q rows (take (length journal - at) (drop at journal))
 record-asked journal latest reached at rows place q e f = rw (e, f, take_rest at journal)
 
 -- at a place of the used words, with so many rows read, this predecessor of a further one, and the last at the minute `reached`
-pub record Walked (journal : List ℕ) (at rows : ℕ) (latest : Predecessor) (reached : ℕ) : Type 0 where
+pub record Walked (journal : List ℕ) (at rows : ℕ) (latest : RustOption Predecessor) (reached : ℕ) : Type 0 where
   pub standing : List Row
   pub counted : length standing ≡ rows
   pub few : rows ≤ row_limit
@@ -150,7 +152,7 @@ pub record Walked (journal : List ℕ) (at rows : ℕ) (latest : Predecessor) (r
   pub minute : latest_minute standing ≡ reached
   pub left : read_rows (row_limit - rows) standing (drop at journal) ≡ read_rows row_limit [] (drop 1 journal)
 
-pub walked_start : (journal : List ℕ) → 1 ≤ length journal → Walked journal 1 0 Nothing 0
+pub walked_start : (journal : List ℕ) → 1 ≤ length journal → Walked journal 1 0 None 0
 walked_start journal h = record {
   standing = [];
   counted = refl;
@@ -163,11 +165,11 @@ walked_start journal h = record {
   left = refl;
 }
 
-module _ (journal : List ℕ) (at rows : ℕ) (latest : Predecessor) (reached : ℕ) (w : Walked journal at rows latest reached) where
+module _ (journal : List ℕ) (at rows : ℕ) (latest : RustOption Predecessor) (reached : ℕ) (w : Walked journal at rows latest reached) where
   -- as the row reader is asked
   asked : record_at (place_of latest) reached (candidates_of latest) rows (drop at journal) ≡ record_at (predecessor_place w.standing) (latest_minute w.standing) (size_of (predecessor w.standing)) (length w.standing) (drop at journal)
   asked =
-      ap (λ (x : Predecessor). record_at (place_of x) reached (candidates_of x) rows (drop at journal)) (sym w.last)
+      ap (λ (x : RustOption Predecessor). record_at (place_of x) reached (candidates_of x) rows (drop at journal)) (sym w.last)
       ∙ rw (latest-size w.standing, latest-place w.standing, ← w.counted, ← w.minute)
 
   -- a place that a word of kind 7 has bits for, where the journal's length has
@@ -181,7 +183,7 @@ module _ (journal : List ℕ) (at rows : ℕ) (latest : Predecessor) (reached : 
     some_left = simp length-drop (omega arith)
 
     -- no room for a further row
-    pub walked-full : rows ≡ row_limit → survey_of (length journal) (read_rows row_limit [] (drop 1 journal)) ≡ NotWellFormed
+    pub walked-full : rows ≡ row_limit → survey_of (length journal) (read_rows row_limit [] (drop 1 journal)) ≡ not_well_formed
     walked-full e =
         let none_left : row_limit - rows ≡ 0 = omega arith in
         ap (survey_of (length journal)) (sym w.left ∙ ap (λ (n : ℕ). read_rows n w.standing (drop at journal)) none_left ∙ full w.standing (drop at journal) some_left)
@@ -195,7 +197,7 @@ module _ (journal : List ℕ) (at rows : ℕ) (latest : Predecessor) (reached : 
       one_more = omega arith
 
       -- no record
-      pub walked-bad : record_at (place_of latest) reached (candidates_of latest) rows (drop at journal) ≡ Bad → survey_of (length journal) (read_rows row_limit [] (drop 1 journal)) ≡ NotWellFormed
+      pub walked-bad : record_at (place_of latest) reached (candidates_of latest) rows (drop at journal) ≡ None → survey_of (length journal) (read_rows row_limit [] (drop 1 journal)) ≡ not_well_formed
       walked-bad e =
           ap (survey_of (length journal))
           (sym w.left ∙ ap (λ (n : ℕ). read_rows n w.standing (drop at journal)) one_more
@@ -206,7 +208,7 @@ module _ (journal : List ℕ) (at rows : ℕ) (latest : Predecessor) (reached : 
           broken n rs (x ∷ ws) h q = unfold read_rows in rw q
 
       -- a record: its length, and the walk past it
-      module _ (l c : ℕ) (s : Bool) (m : ℕ) (e : record_at (place_of latest) reached (candidates_of latest) rows (drop at journal) ≡ Whole l c s m) where
+      module _ (l c : ℕ) (s : Bool) (m : ℕ) (e : record_at (place_of latest) reached (candidates_of latest) rows (drop at journal) ≡ whole_record l c s m) where
         one_found : Found w.standing (drop at journal) l c s m
         one_found = found w.standing (drop at journal) l c s m (sym asked ∙ e)
 
@@ -216,7 +218,7 @@ module _ (journal : List ℕ) (at rows : ℕ) (latest : Predecessor) (reached : 
             let g = fits w.standing (drop at journal) f.ok in
             (omega (arith, f.long, g.0), omega (arith, f.long, g.1, length-drop at journal))
 
-        pub walked-turn : Walked journal (at + l) (rows + 1) (cond s (At at rows c) latest) m
+        pub walked-turn : Walked journal (at + l) (rows + 1) (cond s (predecessor_at at rows c) latest) m
         walked-turn =
             let f = one_found in
             let r = read_row (drop at journal) in
@@ -236,18 +238,18 @@ module _ (journal : List ℕ) (at rows : ℕ) (latest : Predecessor) (reached : 
             }
           where
             -- its candidates, or those of the predecessor before it
-            small : (b : Bool) → candidates_of (cond b (At at rows c) latest) ≤ candidate_limit
+            small : (b : Bool) → candidates_of (cond b (predecessor_at at rows c) latest) ≤ candidate_limit
             small true = omega (arith, one_found.many, few w.standing (drop at journal) one_found.ok)
             small false = w.size
 
             longer : (r : Row) → l ≡ length (record_on w.standing r) → suc (length (words (r ∷ w.standing))) ≡ at + l
             longer r q = unfold words in omega (arith, length-append (words w.standing) (record_on w.standing r), w.placed)
 
-            picked : (r : Row) → c ≡ row_size r → s ≡ scores r → cond (scores r) (At (suc (length (words w.standing))) (length w.standing) (row_size r)) (latest_of w.standing) ≡ cond s (At at rows c) latest
+            picked : (r : Row) → c ≡ row_size r → s ≡ scores r → cond (scores r) (predecessor_at (suc (length (words w.standing))) (length w.standing) (row_size r)) (latest_of w.standing) ≡ cond s (predecessor_at at rows c) latest
             picked r a b = cc (w.placed, w.counted, w.last)
 
   -- the end of the used words
-  pub walked_end : length journal ≤ at → survey_of (length journal) (read_rows row_limit [] (drop 1 journal)) ≡ WellFormed rows at latest reached
+  pub walked_end : length journal ≤ at → survey_of (length journal) (read_rows row_limit [] (drop 1 journal)) ≡ well_formed rows at latest reached
   walked_end h =
       let ended : read_rows row_limit [] (drop 1 journal) ≡ some w.standing = sym w.left ∙ ap (read_rows (row_limit - rows) w.standing) (drop_of_length-le journal h) ∙ read-end (row_limit - rows) w.standing in
       let all : length journal ≡ at = omega (arith, w.inside) in
@@ -261,19 +263,19 @@ used-kind w = kind-word 5 w
 
 -- by what each test of word 0 gives
 pub survey-by : (s : List ℕ) (a b d : Bool) → eqb (get_or s 0 0 / 268435456) 5 ≡ a → leb 1 (used s) ≡ b → leb (used s) (length s) ≡ d
-    → cond a (cond b (cond d (survey_of (used s) (read_rows row_limit [] (drop 1 (used_words s)))) NotWellFormed) NotWellFormed) NotWellFormed ≡ survey s
+    → cond a (cond b (cond d (survey_of (used s) (read_rows row_limit [] (drop 1 (used_words s)))) not_well_formed) not_well_formed) not_well_formed ≡ survey s
 unfolding survey read_journal
 survey-by s a b d e f g = sym (rw (used-kind (get_or s 0 0), e, f, g) (go a b d))
   where
     rest : Option (List Row)
     rest = read_rows row_limit [] (drop 1 (used_words s))
 
-    go : (a b d : Bool) → survey_of (used s) (cond (a && (b && d)) rest none) ≡ cond a (cond b (cond d (survey_of (used s) rest) NotWellFormed) NotWellFormed) NotWellFormed
+    go : (a b d : Bool) → survey_of (used s) (cond (a && (b && d)) rest none) ≡ cond a (cond b (cond d (survey_of (used s) rest) not_well_formed) not_well_formed) not_well_formed
     go true true true = refl
     go true true false = refl
     go true false d = refl
     go false b d = refl
 
-pub survey-none : (s : List ℕ) → length s ≡ 0 → NotWellFormed ≡ survey s
+pub survey-none : (s : List ℕ) → length s ≡ 0 → not_well_formed ≡ survey s
 survey-none [] e = survey-by [] false (leb 1 0) (leb 0 0) refl refl refl
 survey-none (w ∷ s) e = absurd (omega arith)

@@ -4,7 +4,6 @@ ghost use Rattle.journal.specs.Ranges.{row_limit};
 ghost use Rattle.journal.specs.Journal.{read_rows};
 ghost use Rattle.journal.specs.inner.Check.{candidates_of, place_of, survey_of, survey};
 
-use crate::lengths::record_lengths;
 use crate::read::read_row;
 use refusals::Refusal;
 
@@ -44,7 +43,6 @@ pub fn walk(journal: &[u32]) -> Result<Survey, Refusal>
     requires { (1 ≤ length journal.now) × (length journal.now < 268435456) }
     ensures { result ≡ survey_of (length journal.now) (read_rows row_limit [] (drop 1 journal.now)) }
 {
-    let lengths = record_lengths();
     let mut survey = Survey {
         rows: 0,
         used: 1,
@@ -57,7 +55,6 @@ pub fn walk(journal: &[u32]) -> Result<Survey, Refusal>
         }
         let record = read_row(
             &journal[survey.used..],
-            &lengths,
             place_of(survey.latest),
             survey.minute,
             candidates_of(survey.latest),

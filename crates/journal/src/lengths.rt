@@ -2,10 +2,9 @@
 ghost use Rattle.std.specs.Prelude.{◌≡◌, ◌≤◌};
 ghost use Rattle.journal.specs.Ranges.{candidate_limit};
 ghost use Rattle.journal.specs.Record.{record_length};
-ghost use Rattle.journal.specs.inner.LengthTable.{LengthTable};
 
 // Row by row: for each number of candidates, 0 to 16, the lengths with 0 to 16 predecessor candidates.
-const RECORD_LENGTHS: [u16; 289] = [
+static RECORD_LENGTHS: [u16; 289] = [
     // 0 candidates
     5, 5, 5, 5, 5, 5, 5, 5, 5, 5, 5, 5, 5, 5, 5, 5, 5,
     // 1 candidate
@@ -42,28 +41,10 @@ const RECORD_LENGTHS: [u16; 289] = [
     117, 149, 181, 213, 245, 277, 309, 341, 373, 405, 437, 469, 501, 533, 565, 597, 629,
 ];
 
-// The table as a value. A constant array is stored anew wherever it is named: who reads it for many records makes it once and lends it.
-pub fn record_lengths() -> [u16; 289]
-    ensures { LengthTable result }
-{
-    RECORD_LENGTHS
-}
-
-// The table's entry for c candidates with p predecessor candidates.
-pub fn length_in(lengths: &[u16; 289], c: usize, p: usize) -> usize
-    requires length_table { LengthTable lengths.now }
-    requires c_le_candidate_limit { (c ≤ candidate_limit) × (p ≤ candidate_limit) }
-    ensures words { result ≡ record_length c p }
-    ensures few_words { result ≤ 629 }
-{
-    lengths[17 * c + p] as usize
-}
-
 // The record length of c candidates with p predecessor candidates.
 pub fn record_length(c: usize, p: usize) -> usize
     requires { (c ≤ candidate_limit) × (p ≤ candidate_limit) }
     ensures { (result ≡ record_length c p) × (result ≤ 629) }
 {
-    let lengths = record_lengths();
-    length_in(&lengths, c, p)
+    RECORD_LENGTHS[17 * c + p] as usize
 }

@@ -6,11 +6,10 @@ ghost use Rattle.journal.specs.Row.{before_of};
 ghost use Rattle.journal.specs.Ranges.{candidate_limit, distance_ok, cell_ok};
 ghost use Rattle.journal.specs.Record.{first_cell, cell_words, float_words, float_at, read_cell, read_distance, read_row, record_length};
 ghost use Rattle.journal.specs.inner.Check.{well_read, minute_reads, body_reads, record_at};
-ghost use Rattle.journal.specs.inner.LengthTable.{LengthTable};
 
 use crate::float::float_at;
 use crate::halves::{finite_reads, greatest_half, intrinsic_reads, raw_log_reads, score_reads};
-use crate::lengths::length_in;
+use crate::lengths::record_length;
 use crate::range::{distance_ok, parent_ok};
 use crate::record::{Candidate, FIRST_CELL, distance_count};
 
@@ -129,6 +128,7 @@ pub fn before_of(q: usize, c: usize) -> usize
 
 // Whether what follows the head word of c candidates with p predecessor candidates is a record's, which ends at `end`, with the predecessor's at
 // `place`, not before the minute `since`.
+#[tactic(auto, unfolding(crate::specs::Record::record_length, crate::specs::inner::Check::body_reads))]
 fn body_reads(
     words: &[u32],
     place: usize,
@@ -153,17 +153,9 @@ fn body_reads(
 }
 
 // The record at the head of the words, as this row, after one of the minute `since`, on a predecessor of q candidates, whose record starts at
-// `place`. Its length is that of the lent table.
-pub fn read_row(
-    words: &[u32],
-    lengths: &[u16; 289],
-    place: usize,
-    since: u32,
-    q: usize,
-    row: usize,
-) -> Option<Record>
-    requires length_table { LengthTable lengths.now }
-    requires q_le_candidate_limit { (q ≤ candidate_limit) × (row < 65536) × (place < 268435456) }
+// `place`.
+pub fn read_row(words: &[u32], place: usize, since: u32, q: usize, row: usize) -> Option<Record>
+    requires { (q ≤ candidate_limit) × (row < 65536) × (place < 268435456) }
     ensures { result ≡ record_at place since q row words.now }
 {
     if words.len() == 0 {
@@ -175,7 +167,7 @@ pub fn read_row(
     if head / 1024 != 262144 || 16 < c || p != before_of(q, c) {
         return None;
     }
-    let length = length_in(lengths, c, p);
+    let length = record_length(c, p);
     if words.len() < length || !body_reads(words, place, since, c, p, length, row) {
         return None;
     }

@@ -33,13 +33,17 @@ body_reads place since c p n ws =
     && (every_below (c * p) (λ k. well_read float_words read_distance distance_ok (drop (first_cell + 7 * c + 1 + 2 * k) ws))
     && eqb (get_or ws (record_length c p - 1) 0) (length_word (record_length c p))))))
 
+-- a record's length, its number of candidates, whether its row scores, and its minute
+abbrev pub whole_record : ℕ → ℕ → Bool → ℕ → RustOption Record
+whole_record n c s m = Some (record { length = n; candidates = c; scores = s; minute = m })
+
 -- what the row reader finds: the record of row number n, after a row of the minute `since`, on a predecessor of q candidates, whose record starts
 -- at `place`
 unfoldable pub record_at : ℕ → ℕ → ℕ → ℕ → List ℕ → RustOption Record
 record_at place since q n ws =
-    let r = read_row ws in
-    let found : Record = record { length = length (record_of place r); candidates = row_size r; scores = scores r; minute = r.minute } in
-    cond (well_read (record_of place) read_row (row_ok since q n) ws) (Some found) None
+    cond (well_read (record_of place) read_row (row_ok since q n) ws)
+    (whole_record (length (record_of place (read_row ws))) (row_size (read_row ws)) (scores (read_row ws)) (read_row ws).minute)
+    None
 
 -- ---- the journal
 

@@ -9,32 +9,23 @@ bounds-journal-0 c = some_words _ _ c.requires.reads
 pub overflow_cast-at : goal.overflow_cast-at
 overflow_cast-at c = omega arith
 
-pub loop-k-init : goal.loop-k-init
-loop-k-init c = (omega arith, ended-start _ _ c.requires)
-
-pub overflow_sub-length : goal.overflow_sub-length
-overflow_sub-length c = omega (arith, ended-room _ _ _ _ c.loop-k.invariant.1 c.loop-k-test.true)
+pub loop-n-init : goal.loop-n-init
+loop-n-init c = (omega arith, ended-start _ _ c.requires)
 
 pub offset_bounds-journal-at : goal.offset_bounds-journal-at
-offset_bounds-journal-at c = omega (arith, ended-room _ _ _ _ c.loop-k.invariant.1 c.loop-k-test.true)
+offset_bounds-journal-at c = omega (arith, ended-room _ _ _ _ c.loop-n.invariant.1 c.loop-n-test.true)
 
 pub bounds-journal-at : goal.bounds-journal-at
-bounds-journal-at c = omega (arith, ended-room _ _ _ _ c.loop-k.invariant.1 c.loop-k-test.true)
-
-pub overflow_cast-length : goal.overflow_cast-length
-overflow_cast-length c = omega arith
+bounds-journal-at c = omega (arith, ended-room _ _ _ _ c.loop-n.invariant.1 c.loop-n-test.true)
 
 pub overflow_sub-at : goal.overflow_sub-at
-overflow_sub-at c = (ended-room _ _ _ _ c.loop-k.invariant.1 c.loop-k-test.true).2
+overflow_sub-at c = (ended-room _ _ _ _ c.loop-n.invariant.1 c.loop-n-test.true).2
 
-pub overflow_add-k : goal.overflow_add-k
-overflow_add-k c = omega arith
+pub loop-n-smaller : goal.loop-n-smaller
+loop-n-smaller c = omega arith
 
-pub loop-k-smaller : goal.loop-k-smaller
-loop-k-smaller c = omega arith
-
-pub loop-k-preserved : goal.loop-k-preserved
-loop-k-preserved c = (omega arith, ended-turn _ _ _ _ c.loop-k.invariant.1 c.loop-k-test.true)
+pub loop-n-preserved : goal.loop-n-preserved
+loop-n-preserved c = (omega arith, ended-turn _ _ _ _ c.loop-n.invariant.1 c.loop-n-test.true)
 
 pub returns : goal.returns
-returns c = ended-done _ _ _ _ c.loop-k.invariant.1 (omega arith)
+returns c = ended-done _ _ _ _ c.loop-n.invariant.1 (omega arith)

@@ -4,18 +4,19 @@ use native.Mathlib.Omega.{arith}
 use mathlib.Core.List.{List, [], ◌∷◌}
 use mathlib.Core.Path.{◌≡◌, refl}
 use lib.ListN.{length, set}
-use Rattle.journal.specs.declared.call.Answer.TheVariants.{Done, Refused}
+use Rattle.std.specs.Prelude.{Ok, Err}
+use Rattle.refusals.specs.declared.Refusal.{Refusal}
 use Rattle.journal.specs.Call.{opening}
 use Rattle.journal.proofs.call.open.Goals as goal
 
 -- an empty slice
-refused : (s : List ℕ) → length s ≡ 0 → (Refused 12 ≡ (opening s).0) × (s ≡ (opening s).1)
+refused : (s : List ℕ) → length s ≡ 0 → (Err Refusal.Room ≡ (opening s).0) × (s ≡ (opening s).1)
 unfolding opening
 refused [] e = (refl, refl)
 refused (w ∷ s) e = absurd (omega arith)
 
 -- word 0
-done : (s : List ℕ) → (length s ≡ 0 → ⊥) → (Done ≡ (opening s).0) × (set s 0 0x50000001 ≡ (opening s).1)
+done : (s : List ℕ) → (length s ≡ 0 → ⊥) → (Ok tt ≡ (opening s).0) × (set s 0 0x50000001 ≡ (opening s).1)
 unfolding opening
 done [] h = absurd (h refl)
 done (w ∷ s) h = (refl, refl)
@@ -23,8 +24,8 @@ done (w ∷ s) h = (refl, refl)
 pub returns-then-journal-eq0 : goal.returns-then-journal-eq0
 returns-then-journal-eq0 c =
     record {
-      fact_1 = (refused _ c.if-journal-eq0.true).0;
-      fact_2 = (refused _ c.if-journal-eq0.true).1;
+      answer = (refused _ c.if-journal-eq0.true).0;
+      words_left = (refused _ c.if-journal-eq0.true).1;
     }
 
 pub bounds-journal-0 : goal.bounds-journal-0
@@ -33,6 +34,6 @@ bounds-journal-0 c = omega arith
 pub returns : goal.returns
 returns c =
     record {
-      fact_1 = (done _ c.if-journal-eq0.false).0;
-      fact_2 = (done _ c.if-journal-eq0.false).1;
+      answer = (done _ c.if-journal-eq0.false).0;
+      words_left = (done _ c.if-journal-eq0.false).1;
     }

@@ -24,5 +24,6 @@ not-above (fin s m e) h = clash refl h
 pub returns-then-minus_infinity-x : goal.returns-then-minus_infinity-x
 returns-then-minus_infinity-x c = rw c.infinity.ensures (below _ (rw c.minus_infinity.ensures at c.if-minus_infinity-x.true))
 
-pub returns : goal.returns
-returns c = not-above _ (rw c.minus_infinity.ensures at c.if-minus_infinity-x.false)
+pub returns-else-minus_infinity-x : goal.returns-else-minus_infinity-x
+returns-else-minus_infinity-x c = let h = rw c.minus_infinity.ensures at c.if-minus_infinity-x.false in
+    rw (c.minus_infinity.ensures, h) (not-above _ h)

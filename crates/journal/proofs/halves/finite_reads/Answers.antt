@@ -6,7 +6,4 @@ use Rattle.journal.proofs.halves.finite_reads.Goals as goal
 
 pub returns-then-is_above : goal.returns-then-is_above
 returns-then-is_above c = let t = above _ _ (sym c.is_above.ensures ∙ c.if-is_above.true) in
-    sym (finite-half _ _ (search rules) t.set t.below)
-
-pub returns : goal.returns
-returns c = rw (← c.float_at.ensures) c.is_finite.ensures
+    c.if-is_above.true ∙ sym (finite-half _ _ (search rules) t.set t.below)

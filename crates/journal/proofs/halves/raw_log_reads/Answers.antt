@@ -6,7 +6,4 @@ use Rattle.journal.proofs.halves.raw_log_reads.Goals as goal
 
 pub returns-then-is_above : goal.returns-then-is_above
 returns-then-is_above c = let t = above _ _ (sym c.is_above.ensures ∙ c.if-is_above.true) in
-    sym (raw-log-half _ _ (search rules) t.set t.below)
-
-pub returns : goal.returns
-returns c = rw (← c.float_at.ensures) c.raw_log_ok.ensures
+    c.if-is_above.true ∙ sym (raw-log-half _ _ (search rules) t.set t.below)

@@ -6,8 +6,8 @@ use Rattle.journal.proofs.range.raw_log_ok.Goals as goal
 
 pub returns-then-is_minus_infinity : goal.returns-then-is_minus_infinity
 unfolding raw_log_ok
-returns-then-is_minus_infinity c = rw (sym c.is_minus_infinity.ensures ∙ c.if-is_minus_infinity.true)
+returns-then-is_minus_infinity c = rw (sym c.is_minus_infinity.ensures ∙ c.if-is_minus_infinity.true) c.if-is_minus_infinity.true
 
-pub returns : goal.returns
+pub returns-else-is_minus_infinity : goal.returns-else-is_minus_infinity
 unfolding raw_log_ok of_bits neg
-returns c = rw (sym c.is_minus_infinity.ensures ∙ c.if-is_minus_infinity.false) c.in_range.ensures
+returns-else-is_minus_infinity c = rw (sym c.is_minus_infinity.ensures ∙ c.if-is_minus_infinity.false) c.in_range.ensures

@@ -7,23 +7,11 @@ use Rattle.journal.proofs.read.cells_read.Goals as goal
 pub loop-k-init : goal.loop-k-init
 loop-k-init c = (omega arith, every-none _)
 
-pub overflow_mul-k : goal.overflow_mul-k
-overflow_mul-k c = omega arith
-
-pub overflow_add-k : goal.overflow_add-k
-overflow_add-k c = omega arith
-
 pub cell_reads-requires : goal.cell_reads-requires
 cell_reads-requires c = omega arith
 
 pub returns-then-not-cell_reads : goal.returns-then-not-cell_reads
 returns-then-not-cell_reads c = every-stop c.loop-k.k _ _ c.loop-k-test.true (sym c.cell_reads.ensures ∙ c.if-not-cell_reads.true)
-
-pub overflow_add-k-in-loop-k : goal.overflow_add-k-in-loop-k
-overflow_add-k-in-loop-k c = omega arith
-
-pub loop-k-smaller : goal.loop-k-smaller
-loop-k-smaller c = omega arith
 
 pub loop-k-preserved : goal.loop-k-preserved
 loop-k-preserved c = (omega arith, every-turn _ _ c.loop-k.invariant.1 (sym c.cell_reads.ensures ∙ c.if-not-cell_reads.false))

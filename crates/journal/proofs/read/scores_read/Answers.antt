@@ -7,26 +7,11 @@ use Rattle.journal.proofs.read.scores_read.Goals as goal
 pub loop-k-init : goal.loop-k-init
 loop-k-init c = (omega arith, any_none _)
 
-pub overflow_mul-k : goal.overflow_mul-k
-overflow_mul-k c = omega arith
-
-pub overflow_add-k : goal.overflow_add-k
-overflow_add-k c = omega arith
-
-pub overflow_add-k-in-loop-k : goal.overflow_add-k-in-loop-k
-overflow_add-k-in-loop-k c = omega arith
-
 pub finite_reads-requires : goal.finite_reads-requires
 finite_reads-requires c = omega arith
 
 pub returns-then-finite_reads : goal.returns-then-finite_reads
 returns-then-finite_reads c = any-stop c.loop-k.k _ _ c.loop-k-test.true (sym c.finite_reads.ensures ∙ c.if-finite_reads.true)
-
-pub overflow_add-k-in-loop-k-2 : goal.overflow_add-k-in-loop-k-2
-overflow_add-k-in-loop-k-2 c = omega arith
-
-pub loop-k-smaller : goal.loop-k-smaller
-loop-k-smaller c = omega arith
 
 pub loop-k-preserved : goal.loop-k-preserved
 loop-k-preserved c = (omega arith, any-turn _ _ c.loop-k.invariant.1 (sym c.finite_reads.ensures ∙ c.if-finite_reads.false))

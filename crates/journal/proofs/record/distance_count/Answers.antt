@@ -17,6 +17,6 @@ overflow_mul-result c = omega (arith, within _ _ c.requires.0 c.requires.1)
 pub returns : goal.returns
 returns c =
     record {
-      fact_1 = refl;
-      fact_2 = within _ _ c.requires.0 c.requires.1;
+      pairs = refl;
+      few_pairs = within _ _ c.requires.0 c.requires.1;
     }

@@ -24,29 +24,8 @@ bounds-words-at c = omega arith
 pub loop-k-init : goal.loop-k-init
 loop-k-init c = (omega arith, refl, refl)
 
-pub overflow_add-at : goal.overflow_add-at
-overflow_add-at c = omega arith
-
-pub overflow_mul-k : goal.overflow_mul-k
-overflow_mul-k c = omega arith
-
-pub overflow_add-at-in-loop-k : goal.overflow_add-at-in-loop-k
-overflow_add-at-in-loop-k c = omega arith
-
-pub offset_bounds-distances-k : goal.offset_bounds-distances-k
-offset_bounds-distances-k c = omega arith
-
-pub bounds-distances-k : goal.bounds-distances-k
-bounds-distances-k c = omega arith
-
 pub put_float-requires : goal.put_float-requires
 put_float-requires c = omega (arith, simp length-set at c.loop-k.invariant.1)
-
-pub overflow_add-k : goal.overflow_add-k
-overflow_add-k c = omega arith
-
-pub loop-k-smaller : goal.loop-k-smaller
-loop-k-smaller c = omega arith
 
 pub loop-k-preserved : goal.loop-k-preserved
 loop-k-preserved c = let i = c.loop-k in

@@ -114,6 +114,6 @@ pub returns : goal.returns
 returns c =
     let length-is = c.record_length-length.ensures.0 in
     record {
-      fact_1 = length-is ∙ sym (long c.args.place c.args.fix c.args.distances.now c.args.parents.now c.args.scores.now c.args.p c.requires.entries16);
-      fact_2 = row-stored c.args.words.now _ _ c.args.place _ c.requires.entries16.1.number _ (many c.args.fix c.requires.entries16.0 c.args.parents.now c.args.scores.now) _ length-is c.put_cells.ensures c.put_distances.ensures;
+      length_told = length-is ∙ sym (long c.args.place c.args.fix c.args.distances.now c.args.parents.now c.args.scores.now c.args.p c.requires.entries16);
+      record_put = row-stored c.args.words.now _ _ c.args.place _ c.requires.entries16.1.number _ (many c.args.fix c.requires.entries16.0 c.args.parents.now c.args.scores.now) _ length-is c.put_cells.ensures c.put_distances.ensures;
     }
