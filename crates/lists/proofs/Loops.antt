@@ -1,11 +1,15 @@
 -- A turn of each loop, and its end; what `every_below` and `any_below` tell of each number. Assumes nothing.
 use mathlib.Core.Path.{◌≡◌, refl, sym, ap, subst, fun_ext}
 use mathlib.Core.Bool.{Bool, true, false, ◌&&◌, ◌||◌}
+use mathlib.Core.List.{List, [], ◌∷◌, ◌++◌}
 use mathlib.Core.Logic.{◌⊎◌, inl, inr, ⊎_elim}
 use Prim.Native.Nat.{ℕ, zero, suc, ◌+◌, ◌<◌}
 use native.Mathlib.Nat.{not-suc-le-zero, le_of_suc-le-suc, eq-or-lt_of_le}
 use native.Mathlib.Omega.{arith}
 use native.Mathlib.Numerals.{add-one}
+use lib.ListN.{length, get_or, get_or-append}
+use lib.Seq.{get_or-append_seam}
+use Rattle.std.proofs.lemmas.List.{length_push}
 use Rattle.lists.specs.Loops.{up_to, every_below, any_below}
 
 -- ---- tests
@@ -130,7 +134,21 @@ every_front (suc n) test = rw (every_front n test) (and_assoc (test 0) (every_be
 pub every-same : (n : ℕ) (f g : ℕ → Bool) → ((k : ℕ) → f k ≡ g k) → every_below n f ≡ every_below n g
 every-same n f g h = ap (every_below n) (fun_ext h)
 
+every_alike : (n : ℕ) (f g : ℕ → Bool) → ((k : ℕ) → k < n → f k ≡ g k) → every_below n f ≡ every_below n g
+unfolding every_below
+every_alike zero f g h = refl
+every_alike (suc n) f g h = rw (every_alike n f g (λ k l. h k (omega arith)), h n (omega arith))
+
 pub any_same : (n : ℕ) (f g : ℕ → Bool) → ((k : ℕ) → k < n → f k ≡ g k) → any_below n f ≡ any_below n g
 unfolding any_below
 any_same zero f g h = refl
 any_same (suc n) f g h = rw (any_same n f g (λ k l. h k (omega arith)), h n (omega arith))
+
+-- ---- every entry of a list
+
+-- where one is added at the end, as a fold over the list does
+pub every-pushed : {A : Type 0} (test : A → Bool) (d : A) (ys : List A) (x : A) {was is : Bool} →
+    was ≡ every_below (length ys) (λ k. test (get_or ys k d)) → is ≡ was && test x → is ≡ every_below (length (ys ++ x ∷ [])) (λ k. test (get_or (ys ++ x ∷ []) k d))
+unfolding every_below
+every-pushed test d ys x h e =
+    rw (length_push ys x, add-one, get_or-append_seam ys x [] d, every_alike (length ys) _ (λ k. test (get_or ys k d)) (λ k l. ap test (get_or-append ys (x ∷ []) d k l)), ← h) e

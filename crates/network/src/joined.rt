@@ -34,6 +34,7 @@ pub fn element_nodes(element: usize) -> Nodes
     }
 }
 
+#[tactic(auto, unfolding(crate::specs::inner::Nodes::within))]
 fn is_within(nodes: Nodes, v: usize) -> bool
     ensures { result ≡ within nodes v }
 {
@@ -41,12 +42,14 @@ fn is_within(nodes: Nodes, v: usize) -> bool
 }
 
 // Most links start elsewhere, so that is asked first.
+#[tactic(auto, unfolding(crate::specs::inner::Nodes::link_leads))]
 fn link_leads(sources: Nodes, targets: Nodes, l: Link) -> bool
     ensures { result ≡ link_leads sources targets l }
 {
     is_within(sources, l.from) && is_within(targets, l.to) && l.passable
 }
 
+#[tactic(auto, unfolding(crate::specs::inner::Nodes::relation_leads))]
 fn relation_leads(elements: usize, sources: Nodes, targets: Nodes, r: Relation) -> bool
     requires { FieldsOf32Bits r }
     ensures { result ≡ relation_leads elements sources targets r }

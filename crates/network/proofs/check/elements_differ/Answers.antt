@@ -1,22 +1,15 @@
 -- `network::check::elements_differ` meets its contract.
-use mathlib.Core.Path.{refl, sym}
-use native.Mathlib.Omega.{arith}
+use Rattle.std.proofs.Common.{arith, rules, sym}
 use Rattle.lists.proofs.Loops.{every-none, every-kept, every-all-kept}
 use Rattle.network.specs.Network.{elements_differ}
 use Rattle.network.proofs.check.elements_differ.Goals as goal
 
 pub loop-k-init : goal.loop-k-init
-loop-k-init c = (refl, omega arith, sym (every-none _))
-
-pub overflow_step-k : goal.overflow_step-k
-overflow_step-k c = omega arith
-
-pub loop-k-smaller : goal.loop-k-smaller
-loop-k-smaller c = omega arith
+loop-k-init c = sym (every-none _)
 
 pub loop-k-preserved : goal.loop-k-preserved
-loop-k-preserved c = (refl, omega arith, every-kept _ _ c.loop-k.invariant.2 c.both-ok.ensures)
+loop-k-preserved c = every-kept _ _ c.loop-k.invariant (search rules)
 
 pub returns : goal.returns
 unfolding elements_differ
-returns c = every-all-kept _ _ _ c.loop-k.invariant.2 (omega arith)
+returns c = every-all-kept _ _ _ c.loop-k.invariant (search rules)

@@ -1,22 +1,15 @@
 -- `network::check::lengths_fit` meets its contract.
-use mathlib.Core.Path.{refl, sym}
-use native.Mathlib.Omega.{arith}
-use Rattle.lists.proofs.Loops.{every-none, every-kept, every-all-kept}
-use Rattle.network.specs.Network.{lengths_fit}
+use Rattle.std.proofs.Common.{◌≡◌, Bool, length, get_or, subst, rules, sym}
+use Rattle.std.specs.Float.{nan}
+use Rattle.std.proofs.lemmas.Fn.{fold_over, slice_gives, fronts}
+use Rattle.lists.specs.Loops.{every_below}
+use Rattle.lists.proofs.Loops.{every-none, every-pushed}
+use Rattle.network.specs.Network.{length_fits, lengths_fit}
 use Rattle.network.proofs.check.lengths_fit.Goals as goal
-
-pub loop-i-init : goal.loop-i-init
-loop-i-init c = (refl, omega arith, sym (every-none _))
-
-pub overflow_step-i : goal.overflow_step-i
-overflow_step-i c = omega arith
-
-pub loop-i-smaller : goal.loop-i-smaller
-loop-i-smaller c = omega arith
-
-pub loop-i-preserved : goal.loop-i-preserved
-loop-i-preserved c = (refl, omega arith, every-kept _ _ c.loop-i.invariant.2 (rw (← c.length_fits.ensures) c.both-ok.ensures))
 
 pub returns : goal.returns
 unfolding lengths_fit
-returns c = every-all-kept _ _ _ c.loop-i.invariant.2 (omega arith)
+returns c = subst (λ l. c.fold.result ≡ every_below (length l) (λ k. length_fits (get_or l k nan))) c.iter.ensures.rest
+    (fold_over fronts (λ y. y.now) _ (λ ys (ok : Bool). ok ≡ every_below (length ys) (λ k. length_fits (get_or ys k nan))) _
+    (λ ys a x b f' j k. let more = every-pushed length_fits nan ys x.now j in (more (search rules), search rules))
+    _ _ _ _ (slice_gives c.iter.result) (sym (every-none _)) c.fold.ensures.ran)

@@ -1,13 +1,8 @@
 -- What the loop of `network::check::relation_rises` keeps.
-use mathlib.Core.Path.{◌≡◌}
-use Prim.Native.Nat.{◌+◌, ◌*◌, ◌≤◌, ◌-◌}
-use lib.ListN.{get_or}
-use lib.Dec.{ltb}
+use Rattle.std.proofs.Common.{◌≡◌, ltb}
 use Rattle.lists.specs.Loops.{every_below}
+use Rattle.network.specs.Network.{first_minute, last_minute}
 use Rattle.network.proofs.check.relation_rises.Given as goal
 
 abbrev pub invariant-loop-i : goal.invariant-loop-i
-invariant-loop-i l = (l.i-end ≡ get_or l.window_counts l.k 0) × (l.i ≤ l.i-end) × (l.ok ≡ every_below l.i (λ j. ltb (get_or l.window_firsts (4 * l.k + j) 0) (get_or l.window_lasts (4 * l.k + j) 0)))
-
-abbrev pub decreases-loop-i : goal.decreases-loop-i
-decreases-loop-i l = l.i-end - l.i
+invariant-loop-i l = l.ok ≡ every_below l.i (λ j. ltb (first_minute l.windows l.k j) (last_minute l.windows l.k j))
