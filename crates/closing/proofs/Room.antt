@@ -2,6 +2,8 @@
 use Prim.Native.Nat.{ℕ, suc, ◌*◌, ◌-◌, ◌<◌, ◌≤◌}
 use native.Mathlib.Nat.{mul-le-mul}
 use native.Mathlib.Omega.{arith}
+use Rattle.std.specs.Prelude.{Ok, Err}
+use Rattle.refusals.specs.declared.Refusal.{Refusal}
 use mathlib.Core.Path.{◌≡◌, refl}
 use mathlib.Core.Bool.{Bool, true, false, cond}
 use mathlib.Core.List.{List}
@@ -16,16 +18,10 @@ use Rattle.journal.specs.Ranges.{candidate_limit}
 use Rattle.journal.specs.Journal.{read_journal}
 use Rattle.journal.specs.WellFormed.{RowFits}
 use Rattle.journal.proofs.Places.{row-obeys}
-use Rattle.closing.specs.Row.{RowBuffers, candidate_room, gives, refused, row_fitted, reading_read, reading}
-
-two-readings : {A : Type 0} {i k : ℕ} → refused i ≡ refused k → (i ≡ k → ⊥) → A
-two-readings {i = i} {k = k} e n = let same : i ≡ k = cc in absurd (n same)
-
-given-refused : {A : Type 0} {r : Row} {k : ℕ} → gives r ≡ refused k → A
-given-refused e = let z : ◌≡◌ {A = ℕ} 0 1 = cc in absurd (omega arith)
+use Rattle.closing.specs.Row.{RowBuffers, candidate_room, row_fitted, reading_read, reading}
 
 module _ (b : RowBuffers) (candidates : candidate_limit ≤ candidate_room b) (distances : candidate_limit * candidate_limit ≤ length b.distances) where
-  row-held : (r : Row) → RowFits r → row_fitted b r ≡ gives r
+  row-held : (r : Row) → RowFits r → row_fitted b r ≡ Ok r
   unfolding row_fitted
   row-held r f =
       let few : row_size r ≤ candidate_room b = omega (arith, f.few) in
@@ -39,14 +35,14 @@ module _ (b : RowBuffers) (candidates : candidate_limit ≤ candidate_room b) (d
         let k = length rs - suc n in
         (row-obeys s rs e k (row_number rs n) (drop (suc k) rs) (drop-cons rs k no_row (omega arith))).0.0
 
-    pub room-enough : reading s n b ≡ refused 15 → ⊥
+    pub room-enough : reading s n b ≡ Err Refusal.Buffer → ⊥
     unfolding reading
     room-enough e = go (read_journal s) refl e
       where
-        stands : (rs : List Row) → read_journal s ≡ some rs → (t : Bool) → ltb n (length rs) ≡ t → cond t (row_fitted b (row_number rs n)) (refused 13) ≡ refused 15 → ⊥
-        stands rs q true p k = given-refused (rw (row-held (row_number rs n) (fits rs q (ltb→lt n (length rs) (taken p)))) at k)
-        stands rs q false p k = two-readings k (λ h. omega arith)
+        stands : (rs : List Row) → read_journal s ≡ some rs → (t : Bool) → ltb n (length rs) ≡ t → cond t (row_fitted b (row_number rs n)) (Err Refusal.Row) ≡ Err Refusal.Buffer → ⊥
+        stands rs q true p k = let held = row-held (row_number rs n) (fits rs q (ltb→lt n (length rs) (taken p))) in cc
+        stands rs q false p k = cc
 
-        go : (o : Option (List Row)) → read_journal s ≡ o → reading_read n b o ≡ refused 15 → ⊥
-        go none q k = two-readings k (λ h. omega arith)
+        go : (o : Option (List Row)) → read_journal s ≡ o → reading_read n b o ≡ Err Refusal.Buffer → ⊥
+        go none q k = cc
         go (some rs) q k = stands rs q (ltb n (length rs)) refl k

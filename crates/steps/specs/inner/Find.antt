@@ -10,6 +10,8 @@ use Rattle.journal.specs.inner.Check.{latest_of}
 use Rattle.journal.specs.inner.Rows.{rows_before}
 use Rattle.journal.specs.Call.{first_failed}
 use Rattle.journal.specs.declared.check.Predecessor.{Predecessor}
+use Rattle.transition.specs.inner.Track.{TrackLists, track_in, TrackFits}
+use Rattle.transition.specs.declared.step.Settings.{Settings}
 use Rattle.decoder.specs.Call.{known_row}
 use Rattle.steps.specs.declared.find.Linked.{Linked}
 
@@ -72,3 +74,15 @@ pub record PairStands (own : List ℕ) (i j : ℕ) : Type 0 where
   pub room : record_length (row_size (read_row own)) (read_row own).before ≤ length own
   pub below : i < row_size (read_row own)
   pub below-before : j < (read_row own).before
+
+-- a row and its predecessor at the head of some words, a track and settings
+pub record TwoRows : Type 0 where
+  pub track : TrackLists
+  pub settings : Settings
+  pub own : List ℕ
+  pub previous : List ℕ
+
+-- on which a step between each pair of them can be scored
+pub record RowsStand (x : TwoRows) : Type 0 where
+  pub track : TrackFits (track_in x.track)
+  pub records : TwoRecords (length x.track.graph.lengths) x.own x.previous

@@ -6,21 +6,23 @@ use Rattle.std.proofs.lemmas.List.Edits.{sets}
 use Rattle.lists.specs.Loops.{up_to}
 use Rattle.refusals.specs.declared.Refusal.{Refusal}
 use Rattle.journal.specs.Row.{Row, row_size}
+use Rattle.journal.specs.Record.{read_row}
 use Rattle.journal.specs.Call.{first_failed}
 use Rattle.transition.specs.inner.Costs.{routes_at}
-use Rattle.transition.specs.inner.Track.{TrackLists, step_through}
-use Rattle.transition.specs.declared.step.Settings.{Settings}
+use Rattle.transition.specs.inner.Track.{step_through}
 use Rattle.rows.specs.Row.{StepScore}
-use Rattle.steps.specs.Steps.{pair_step, entry_of}
+use Rattle.steps.specs.Steps.{Entry, pair_step, entry_of}
+use Rattle.steps.specs.inner.Find.{TwoRows}
 use Rattle.steps.specs.Listing.{StepBuffers, StepsListing, listed_unless}
-use Rattle.steps.specs.declared.store.Entry.{Entry}
 use Rattle.steps.specs.declared.table.RowSteps.{RowSteps}
 
 -- ---- the routes between two rows' candidates
 
--- a pair's step by a table of routes, two rows for each candidate of p and two columns for each of r
-abbrev pub pair_by_table : TrackLists → Settings → List Float → Row → Row → ℕ → ℕ → Option Float
-pair_by_table track settings found p r i j = pair_step (step_through track settings (routes_at found (2 * row_size r) j i)) p r i j
+-- a pair's step by a table of routes, two rows for each candidate of the predecessor and two columns for each own one
+abbrev pub pair_by_table : TwoRows → List Float → ℕ → ℕ → Option Float
+pair_by_table x found i j =
+    let r = read_row x.own in
+    pair_step (step_through x.track x.settings (routes_at found (2 * row_size r) j i)) (read_row x.previous) r i j
 
 -- ---- the table of steps
 
@@ -66,12 +68,6 @@ pub record Room (n : ℕ) (b : StepBuffers) : Type 0 where
   pub steps : n ≤ length b.steps
 
 -- ---- the steps of a row by value
-
--- few pairs, and a predecessor with candidates where there are pairs
-pub record Sized (x : RowSteps) : Type 0 where
-  pub wide : length x.steps ≡ 256
-  pub few : x.n ≤ 256
-  pub some : 0 < x.n → 0 < x.count
 
 -- 15: in buffers of so much room
 abbrev pub steps_fitted : List Entry → ℕ → StepsListing
