@@ -1,21 +1,19 @@
 -- `transition::routes::element_routes` meets its contract.
-use mathlib.Core.Path.{◌∙◌}
+use mathlib.Core.Path.{◌≡◌, ◌∙◌}
 use native.Mathlib.Omega.{arith}
+use Rattle.network.specs.inner.Compiled.{graph_in}
+use Rattle.routing.specs.Route.{route}
+use Rattle.transition.specs.declared.routes.Routes.{Routes}
+use Rattle.transition.specs.Routes.{routes_by}
 use Rattle.transition.proofs.Held.{element-held, start-unknown, goal-unknown}
 use Rattle.transition.proofs.routes.element_routes.Goals as goal
+use Rattle.transition.proofs.routes.element_routes.Goals.{then-graph-leaving-via-then-graph-leaving, then-graph-leaving-via-else-graph-leaving+then-graph-entering}
 
-pub returns-then-lengths-leaving : goal.returns-then-lengths-leaving
-returns-then-lengths-leaving c = c.unreachable.ensures ∙ start-unknown _ _ _ c.if-lengths-leaving.true
-
-pub returns-then-lengths-entering : goal.returns-then-lengths-entering
-returns-then-lengths-entering c = c.unreachable-then-lengths-entering.ensures ∙ goal-unknown _ _ _ c.if-lengths-leaving.false c.if-lengths-entering.true
-
-pub fill_routes-requires : goal.fill_routes-requires
-fill_routes-requires c =
-    record {
-      sound_graph = c.requires;
-      goals_in_bounds = (omega arith, omega arith);
-    }
+pub returns-then-graph-leaving : goal.returns-then-graph-leaving
+returns-then-graph-leaving c = c.unreachable.ensures ∙ elim c.then-graph-leaving.branch [
+  | then-graph-leaving-via-then-graph-leaving w ↦ start-unknown _ _ _ (rw (← c.graph.view_is) w.if-graph-leaving.true)
+  | then-graph-leaving-via-else-graph-leaving+then-graph-entering w ↦ goal-unknown _ _ _ (rw (← c.graph.view_is) w.if-graph-leaving.false) (rw (← c.graph.view_is) w.if-graph-entering.true)
+]
 
 pub returns : goal.returns
-returns c = c.routes_at.ensures ∙ element-held _ _ _ c.if-lengths-leaving.false c.if-lengths-entering.false _ _ c.fill_routes.ensures (omega arith)
+returns c = c.routes_at.ensures ∙ element-held _ _ _ (rw (← c.graph.view_is) c.if-graph-leaving.false) (rw (← c.graph.view_is) c.if-graph-entering.false) _ _ c.fill_routes.ensures (omega arith)
