@@ -29,7 +29,7 @@ use Rattle.journal.proofs.Places.{row-obeys, row_at, row_inside, row-names}
 use Rattle.rows.specs.inner.Scoring.{CandidateStands}
 use Rattle.decoder.specs.Closing.{follow}
 use Rattle.journal.specs.inner.Rows.{rows_in}
-use Rattle.closing.specs.inner.Walk.{first_rows, Reached, path_from, over, pair_stored, column}
+use Rattle.closing.specs.inner.Walk.{first_rows, Reached, RecordLeft, path_from, over, pair_stored, column}
 use Rattle.closing.specs.Close.{PairField}
 use Rattle.closing.specs.declared.walk.Back.{Back}
 use Rattle.closing.proofs.Records.{row-candidate}
@@ -102,7 +102,8 @@ first-all s =
     let none-past : length (rows_in s) - length (rows_in s) ≡ 0 = omega arith in
     ap (λ (k : ℕ). drop k (rows_in s)) none-past
 
-module _ (s : List ℕ) (b : Back) (h : Reached s b) (left : 0 < b.rows) where
+-- a record to go over
+module _ {s : List ℕ} {b : Back} (o : RecordLeft s b) where
   passed : ℕ
   passed = length (rows_in s) - b.rows
 
@@ -116,8 +117,8 @@ module _ (s : List ℕ) (b : Back) (h : Reached s b) (left : 0 < b.rows) where
   split_at : drop passed (rows_in s) ≡ here ∷ earlier
   unfolding passed here earlier
   split_at =
-      let next : suc (length (rows_in s) - b.rows) ≡ length (rows_in s) - (b.rows - 1) = omega (arith, h.within) in
-      drop-cons (rows_in s) (length (rows_in s) - b.rows) no_row (omega (arith, h.within)) ∙ ap (λ (k : ℕ). here ∷ drop k (rows_in s)) next
+      let next : suc (length (rows_in s) - b.rows) ≡ length (rows_in s) - (b.rows - 1) = omega (arith, o.reached.within) in
+      drop-cons (rows_in s) (length (rows_in s) - b.rows) no_row (omega (arith, o.reached.within)) ∙ ap (λ (k : ℕ). here ∷ drop k (rows_in s)) next
 
   pub split : first_rows s b.rows ≡ here ∷ earlier
   unfolding passed
@@ -125,15 +126,15 @@ module _ (s : List ℕ) (b : Back) (h : Reached s b) (left : 0 < b.rows) where
 
   pub many : length earlier ≡ b.rows - 1
   unfolding earlier
-  many = first-length s (b.rows - 1) (omega (arith, h.within))
+  many = first-length s (b.rows - 1) (omega (arith, o.reached.within))
 
   ended : Ended s (length (rows_in s)) passed b.end
   unfolding passed
-  ended = record { stand = record { rows = rows_in s; reads = h.reads; enough = le_refl (length (rows_in s)) }; placed = h.placed }
+  ended = record { stand = record { rows = rows_in s; reads = o.reached.reads; enough = le_refl (length (rows_in s)) }; placed = o.reached.placed }
 
   more : passed < length (rows_in s)
   unfolding passed
-  more = omega (arith, h.within)
+  more = omega (arith, o.reached.within)
 
   pub step_room : (1 ≤ b.end) × (b.end ≤ length s) × (back s b.end ≤ b.end)
   step_room = ended-room s (length (rows_in s)) passed b.end ended more
@@ -142,34 +143,34 @@ module _ (s : List ℕ) (b : Back) (h : Reached s b) (left : 0 < b.rows) where
   unfolding passed earlier
   step-place =
       let turn = ended-turn s (length (rows_in s)) passed b.end ended more in
-      let same : turn.stand.rows ≡ rows_in s = cc (turn.stand.reads, h.reads) in
-      let next : passed + 1 ≡ length (rows_in s) - (b.rows - 1) = omega (arith, h.within) in
+      let same : turn.stand.rows ≡ rows_in s = cc (turn.stand.reads, o.reached.reads) in
+      let next : passed + 1 ≡ length (rows_in s) - (b.rows - 1) = omega (arith, o.reached.within) in
       turn.placed ∙ ap (λ (rs : List Row). suc (length (words (drop (passed + 1) rs)))) same ∙ ap (λ (k : ℕ). suc (length (words (drop k (rows_in s))))) next
 
   pub obeys : Obey (here ∷ earlier)
-  obeys = row-obeys s (rows_in s) h.reads passed here earlier split_at
+  obeys = row-obeys s (rows_in s) o.reached.reads passed here earlier split_at
 
   pub step_row : read_row (drop (b.end - back s b.end) s) ≡ here
-  step_row = rw step-place (row_at s (rows_in s) h.reads passed here earlier split_at)
+  step_row = rw step-place (row_at s (rows_in s) o.reached.reads passed here earlier split_at)
 
   step-inside : first_cell + 7 * row_size (read_row (drop (b.end - back s b.end) s)) ≤ length (drop (b.end - back s b.end) s)
   step-inside =
       rw (step_row, length-drop (b.end - back s b.end) s)
-      (omega (arith, step-place, obey-room here earlier obeys, row_inside s (rows_in s) h.reads passed here earlier split_at))
+      (omega (arith, step-place, obey-room here earlier obeys, row_inside s (rows_in s) o.reached.reads passed here earlier split_at))
 
-  -- its second word is there
-  pub step_words : 1 < length (drop (b.end - back s b.end) s)
+  -- its first words are there
+  pub step_words : first_cell ≤ length (drop (b.end - back s b.end) s)
   step_words = omega (arith, step-inside)
 
   -- the place that it names
   step-names : get_or (drop (b.end - back s b.end) s) 1 0 % 268435456 ≡ predecessor_place earlier
   step-names =
-      let word = row-names s (rows_in s) h.reads passed here earlier split_at in
-      rw step-place (omega (arith, word, place_inside earlier, words_small earlier obeys.1, many, reached-few s b h))
+      let word = row-names s (rows_in s) o.reached.reads passed here earlier split_at in
+      rw step-place (omega (arith, word, place_inside earlier, words_small earlier obeys.1, many, reached-few s b o.reached))
 
   -- where it starts tells whether it scores
   latest-is-here : b.latest ≡ predecessor_place (here ∷ earlier)
-  latest-is-here = h.names ∙ ap predecessor_place split
+  latest-is-here = o.reached.names ∙ ap predecessor_place split
 
   scores-yes : b.end - back s b.end ≡ b.latest → scores here ≡ true
   scores-yes e = place-scores here earlier (sym step-place ∙ e ∙ latest-is-here)
@@ -183,143 +184,142 @@ module _ (s : List ℕ) (b : Back) (h : Reached s b) (left : 0 < b.rows) where
   abbrev past : ℕ → ℕ → Back
   past candidate pairs = record { rows = length earlier; end = suc (length (words earlier)); latest = predecessor_place earlier; candidate = candidate; pairs = pairs }
 
-  module _ (onward : b.candidate ≡ no_parent → ⊥) where
-    module _ (t : scores here ≡ true) where
-      over_yes : over (first_rows s b.rows) b ≡ past (cell_of here b.candidate).parent (b.pairs + 1)
-      unfolding over
-      over_yes = ap (λ (rs : List Row). over rs b) split ∙ rw t
+  module _ (t : scores here ≡ true) where
+    over_yes : over (first_rows s b.rows) b ≡ past (cell_of here b.candidate).parent (b.pairs + 1)
+    unfolding over
+    over_yes = ap (λ (rs : List Row). over rs b) split ∙ rw t
 
-      follow-yes : path_from s b ≡ (length earlier, b.candidate) ∷ follow earlier (cell_of here b.candidate).parent
-      unfolding follow
-      follow-yes = ap (λ (rs : List Row). follow rs b.candidate) split ∙ rw (ne_eqb b.candidate no_parent onward, t)
+    follow-yes : path_from s b ≡ (length earlier, b.candidate) ∷ follow earlier (cell_of here b.candidate).parent
+    unfolding follow
+    follow-yes = ap (λ (rs : List Row). follow rs b.candidate) split ∙ rw (ne_eqb b.candidate no_parent o.parent, t)
 
-      inside : b.candidate < row_size here
-      inside = rw (split, latest-is here earlier, t) at (h.enters onward)
+    inside : b.candidate < row_size here
+    inside = rw (split, latest-is here earlier, t) at (o.reached.enters o.parent)
 
-    module _ (t : scores here ≡ false) where
-      over_no : over (first_rows s b.rows) b ≡ past b.candidate b.pairs
-      unfolding over
-      over_no = ap (λ (rs : List Row). over rs b) split ∙ rw t
+  module _ (t : scores here ≡ false) where
+    over_no : over (first_rows s b.rows) b ≡ past b.candidate b.pairs
+    unfolding over
+    over_no = ap (λ (rs : List Row). over rs b) split ∙ rw t
 
-      follow-no : path_from s b ≡ follow earlier b.candidate
-      unfolding follow
-      follow-no = ap (λ (rs : List Row). follow rs b.candidate) split ∙ rw (ne_eqb b.candidate no_parent onward, t)
+    follow-no : path_from s b ≡ follow earlier b.candidate
+    unfolding follow
+    follow-no = ap (λ (rs : List Row). follow rs b.candidate) split ∙ rw (ne_eqb b.candidate no_parent o.parent, t)
 
-    again : first_rows s (length earlier) ≡ earlier
-    unfolding earlier
-    again = ap (first_rows s) many
+  again : first_rows s (length earlier) ≡ earlier
+  unfolding earlier
+  again = ap (first_rows s) many
 
-    -- still at a place of the journal
-    reached-past : (candidate pairs : ℕ) → pairs ≤ b.pairs + 1 → ((candidate ≡ no_parent → ⊥) → candidate < size_of (predecessor earlier)) → Reached s (past candidate pairs)
-    reached-past candidate pairs few enters = record {
-      reads = h.reads;
-      within = omega (arith, many, h.within);
-      placed = ap (λ (rs : List Row). suc (length (words rs))) (sym again);
-      names = ap predecessor_place (sym again);
-      enters = λ n. rw again (enters n);
-    }
+  -- still at a place of the journal
+  reached-past : (candidate pairs : ℕ) → pairs ≤ b.pairs + 1 → ((candidate ≡ no_parent → ⊥) → candidate < size_of (predecessor earlier)) → Reached s (past candidate pairs)
+  reached-past candidate pairs few enters = record {
+    reads = o.reached.reads;
+    within = omega (arith, many, o.reached.within);
+    placed = ap (λ (rs : List Row). suc (length (words rs))) (sym again);
+    names = ap predecessor_place (sym again);
+    enters = λ n. rw again (enters n);
+  }
 
-    pub over-reached : Reached s (over (first_rows s b.rows) b)
-    over-reached = go (scores here) refl
+  pub over-reached : Reached s (over (first_rows s b.rows) b)
+  over-reached = go (scores here) refl
+    where
+      go : (t : Bool) → scores here ≡ t → Reached s (over (first_rows s b.rows) b)
+      go true t = rw (over_yes t) (reached-past (cell_of here b.candidate).parent (b.pairs + 1) (omega arith) (obey-parent here earlier obeys b.candidate (inside t)))
+      go false t = rw (over_no t) (reached-past b.candidate b.pairs (omega arith) (λ n. rw (split, latest-is here earlier, t) at (o.reached.enters n)))
+
+  -- as many pairs, found or still to come
+  pub over-counts : (over (first_rows s b.rows) b).pairs + length (path_from s (over (first_rows s b.rows) b)) ≡ b.pairs + length (path_from s b)
+  over-counts = go (scores here) refl
+    where
+      go : (t : Bool) → scores here ≡ t → (over (first_rows s b.rows) b).pairs + length (path_from s (over (first_rows s b.rows) b)) ≡ b.pairs + length (path_from s b)
+      go true t = rw (over_yes t, follow-yes t, again) (omega arith)
+      go false t = rw (over_no t, follow-no t, again)
+
+  -- the step in code
+  module _ {p : ℕ} where
+    pub step-yes : b.end - back s b.end ≡ b.latest → p ≡ (cell_of (read_row (drop (b.end - back s b.end) s)) b.candidate).parent
+        → ◌≡◌ {A = Back} (record { rows = b.rows - 1; end = b.end - back s b.end; latest = get_or (drop (b.end - back s b.end) s) 1 0 % 268435456; candidate = p; pairs = b.pairs + 1 })
+        (over (first_rows s b.rows) b)
+    step-yes t e = sym (over_yes (scores-yes t) ∙ rw (many, ← step-place, step-names, e, step_row))
+
+  pub step-no : (b.end - back s b.end ≡ b.latest → ⊥)
+      → ◌≡◌ {A = Back} (record { rows = b.rows - 1; end = b.end - back s b.end; latest = b.latest; candidate = b.candidate; pairs = b.pairs }) (over (first_rows s b.rows) b)
+  step-no n =
+      ap (λ (l : ℕ). record { rows = b.rows - 1; end = b.end - back s b.end; latest = l; candidate = b.candidate; pairs = b.pairs }) (latest-is-here ∙ place-past here earlier (scores-no n))
+      ∙ sym (over_no (scores-no n) ∙ rw (many, ← step-place))
+
+  pub step-candidate : b.end - back s b.end ≡ b.latest → CandidateStands (drop (b.end - back s b.end) s) b.candidate
+  step-candidate t = row-candidate (drop (b.end - back s b.end) s) step-inside b.candidate (rw step_row (inside (scores-yes t)))
+
+  pub over-pairs : (over (first_rows s b.rows) b).pairs ≤ b.pairs + 1
+  over-pairs = go (scores here) refl
+    where
+      go : (t : Bool) → scores here ≡ t → (over (first_rows s b.rows) b).pairs ≤ b.pairs + 1
+      go true t = rw (over_yes t) (omega arith)
+      go false t = rw (over_no t) (omega arith)
+
+  pub over-rows : (over (first_rows s b.rows) b).rows ≡ b.rows - 1
+  over-rows = go (scores here) refl
+    where
+      go : (t : Bool) → scores here ≡ t → (over (first_rows s b.rows) b).rows ≡ b.rows - 1
+      go true t = rw (over_yes t) many
+      go false t = rw (over_no t) many
+
+  -- ---- the pair that a step gives
+
+  -- no pair: as many are still to come
+  pub over-quiet : (over (first_rows s b.rows) b).pairs ≡ b.pairs → path_from s b ≡ path_from s (over (first_rows s b.rows) b)
+  over-quiet e = go (scores here) refl
+    where
+      go : (t : Bool) → scores here ≡ t → path_from s b ≡ path_from s (over (first_rows s b.rows) b)
+      go true t = absurd (let more : b.pairs + 1 ≡ b.pairs = rw (over_yes t) at e in omega arith)
+      go false t = follow-no t ∙ rw (over_no t, again)
+
+  -- past the record, where it starts
+  pub over-place : (over (first_rows s b.rows) b).end ≡ b.end - back s b.end
+  over-place = go (scores here) refl
+    where
+      go : (t : Bool) → scores here ≡ t → (over (first_rows s b.rows) b).end ≡ b.end - back s b.end
+      go true t = rw (over_yes t) (sym step-place)
+      go false t = rw (over_no t) (sym step-place)
+
+  pub over-inside : (over (first_rows s b.rows) b).end ≤ length s
+  over-inside = omega (arith, over-place, step_room)
+
+  module _ (paired : (over (first_rows s b.rows) b).pairs ≡ b.pairs → ⊥) where
+    pair-scores : scores here ≡ true
+    pair-scores = go (scores here) refl
       where
-        go : (t : Bool) → scores here ≡ t → Reached s (over (first_rows s b.rows) b)
-        go true t = rw (over_yes t) (reached-past (cell_of here b.candidate).parent (b.pairs + 1) (omega arith) (obey-parent here earlier obeys b.candidate (inside t)))
-        go false t = rw (over_no t) (reached-past b.candidate b.pairs (omega arith) (λ n. rw (split, latest-is here earlier, t) at (h.enters n)))
+        go : (t : Bool) → scores here ≡ t → t ≡ true
+        go true t = refl
+        go false t = absurd (paired (rw (over_no t)))
 
-    -- as many pairs, found or still to come
-    pub over-counts : (over (first_rows s b.rows) b).pairs + length (path_from s (over (first_rows s b.rows) b)) ≡ b.pairs + length (path_from s b)
-    over-counts = go (scores here) refl
-      where
-        go : (t : Bool) → scores here ≡ t → (over (first_rows s b.rows) b).pairs + length (path_from s (over (first_rows s b.rows) b)) ≡ b.pairs + length (path_from s b)
-        go true t = rw (over_yes t, follow-yes t, again) (omega arith)
-        go false t = rw (over_no t, follow-no t, again)
+    pub over-pair : path_from s b ≡ ((over (first_rows s b.rows) b).rows, b.candidate) ∷ path_from s (over (first_rows s b.rows) b)
+    over-pair = follow-yes pair-scores ∙ rw (over_yes pair-scores, again)
 
-    -- the step in code
-    module _ {p : ℕ} where
-      pub step-yes : b.end - back s b.end ≡ b.latest → p ≡ (cell_of (read_row (drop (b.end - back s b.end) s)) b.candidate).parent
-          → ◌≡◌ {A = Back} (record { rows = b.rows - 1; end = b.end - back s b.end; latest = get_or (drop (b.end - back s b.end) s) 1 0 % 268435456; candidate = p; pairs = b.pairs + 1 })
-          (over (first_rows s b.rows) b)
-      step-yes t e = sym (over_yes (scores-yes t) ∙ rw (many, ← step-place, step-names, e, step_row))
+    pub over-row : read_row (drop (over (first_rows s b.rows) b).end s) ≡ row_number (rows_in s) (over (first_rows s b.rows) b).rows
+    unfolding here passed
+    over-row =
+        let at : length (rows_in s) - suc (over (first_rows s b.rows) b).rows ≡ length (rows_in s) - b.rows = omega (arith, over-rows, o.reached.within) in
+        rw (over-place, at) step_row
 
-    pub step-no : (b.end - back s b.end ≡ b.latest → ⊥)
-        → ◌≡◌ {A = Back} (record { rows = b.rows - 1; end = b.end - back s b.end; latest = b.latest; candidate = b.candidate; pairs = b.pairs }) (over (first_rows s b.rows) b)
-    step-no n =
-        ap (λ (l : ℕ). record { rows = b.rows - 1; end = b.end - back s b.end; latest = l; candidate = b.candidate; pairs = b.pairs }) (latest-is-here ∙ place-past here earlier (scores-no n))
-        ∙ sym (over_no (scores-no n) ∙ rw (many, ← step-place))
+    pub over-candidate : CandidateStands (drop (over (first_rows s b.rows) b).end s) b.candidate
+    over-candidate = rw over-place (row-candidate (drop (b.end - back s b.end) s) step-inside b.candidate (rw step_row (inside pair-scores)))
 
-    pub step-candidate : b.end - back s b.end ≡ b.latest → CandidateStands (drop (b.end - back s b.end) s) b.candidate
-    step-candidate t = row-candidate (drop (b.end - back s b.end) s) step-inside b.candidate (rw step_row (inside (scores-yes t)))
+  -- a column of the pairs, stored from the last entry down
+  pub over-column : (f : PairField) (n : ℕ) (buffer : List ℕ) (x : ℕ) → x ≡ f ((over (first_rows s b.rows) b).rows, b.candidate) → b.pairs < n → n ≤ length buffer
+      → column f (path_from s (over (first_rows s b.rows) b)) (n - (over (first_rows s b.rows) b).pairs) (pair_stored b (over (first_rows s b.rows) b) n x buffer)
+      ≡ column f (path_from s b) (n - b.pairs) buffer
+  unfolding column pair_stored
+  over-column f n buffer x e l room = go (scores here) refl
+    where
+      to : ℕ
+      to = n - (b.pairs + 1)
 
-    pub over-pairs : (over (first_rows s b.rows) b).pairs ≤ b.pairs + 1
-    over-pairs = go (scores here) refl
-      where
-        go : (t : Bool) → scores here ≡ t → (over (first_rows s b.rows) b).pairs ≤ b.pairs + 1
-        go true t = rw (over_yes t) (omega arith)
-        go false t = rw (over_no t) (omega arith)
-
-    pub over-rows : (over (first_rows s b.rows) b).rows ≡ b.rows - 1
-    over-rows = go (scores here) refl
-      where
-        go : (t : Bool) → scores here ≡ t → (over (first_rows s b.rows) b).rows ≡ b.rows - 1
-        go true t = rw (over_yes t) many
-        go false t = rw (over_no t) many
-
-    -- ---- the pair that a step gives
-
-    -- no pair: as many are still to come
-    pub over-quiet : (over (first_rows s b.rows) b).pairs ≡ b.pairs → path_from s b ≡ path_from s (over (first_rows s b.rows) b)
-    over-quiet e = go (scores here) refl
-      where
-        go : (t : Bool) → scores here ≡ t → path_from s b ≡ path_from s (over (first_rows s b.rows) b)
-        go true t = absurd (let more : b.pairs + 1 ≡ b.pairs = rw (over_yes t) at e in omega arith)
-        go false t = follow-no t ∙ rw (over_no t, again)
-
-    -- past the record, where it starts
-    pub over-place : (over (first_rows s b.rows) b).end ≡ b.end - back s b.end
-    over-place = go (scores here) refl
-      where
-        go : (t : Bool) → scores here ≡ t → (over (first_rows s b.rows) b).end ≡ b.end - back s b.end
-        go true t = rw (over_yes t) (sym step-place)
-        go false t = rw (over_no t) (sym step-place)
-
-    pub over-inside : (over (first_rows s b.rows) b).end ≤ length s
-    over-inside = omega (arith, over-place, step_room)
-
-    module _ (paired : (over (first_rows s b.rows) b).pairs ≡ b.pairs → ⊥) where
-      pair-scores : scores here ≡ true
-      pair-scores = go (scores here) refl
-        where
-          go : (t : Bool) → scores here ≡ t → t ≡ true
-          go true t = refl
-          go false t = absurd (paired (rw (over_no t)))
-
-      pub over-pair : path_from s b ≡ ((over (first_rows s b.rows) b).rows, b.candidate) ∷ path_from s (over (first_rows s b.rows) b)
-      over-pair = follow-yes pair-scores ∙ rw (over_yes pair-scores, again)
-
-      pub over-row : read_row (drop (over (first_rows s b.rows) b).end s) ≡ row_number (rows_in s) (over (first_rows s b.rows) b).rows
-      unfolding here passed
-      over-row =
-          let at : length (rows_in s) - suc (over (first_rows s b.rows) b).rows ≡ length (rows_in s) - b.rows = omega (arith, over-rows, h.within) in
-          rw (over-place, at) step_row
-
-      pub over-candidate : CandidateStands (drop (over (first_rows s b.rows) b).end s) b.candidate
-      over-candidate = rw over-place (row-candidate (drop (b.end - back s b.end) s) step-inside b.candidate (rw step_row (inside pair-scores)))
-
-    -- a column of the pairs, stored from the last entry down
-    pub over-column : (f : PairField) (n : ℕ) (buffer : List ℕ) (x : ℕ) → x ≡ f ((over (first_rows s b.rows) b).rows, b.candidate) → b.pairs < n → n ≤ length buffer
-        → column f (path_from s (over (first_rows s b.rows) b)) (n - (over (first_rows s b.rows) b).pairs) (pair_stored b (over (first_rows s b.rows) b) n x buffer)
-        ≡ column f (path_from s b) (n - b.pairs) buffer
-    unfolding column pair_stored
-    over-column f n buffer x e l room = go (scores here) refl
-      where
-        to : ℕ
-        to = n - (b.pairs + 1)
-
-        go : (t : Bool) → scores here ≡ t
-            → reverse_aux (map f (path_from s (over (first_rows s b.rows) b))) (drop (n - (over (first_rows s b.rows) b).pairs) (cond (ltb b.pairs (over (first_rows s b.rows) b).pairs) (set buffer (n - (over (first_rows s b.rows) b).pairs) x) buffer))
-            ≡ reverse_aux (map f (path_from s b)) (drop (n - b.pairs) buffer)
-        go true t =
-            let next : suc to ≡ n - b.pairs = omega arith in
-            let is : x ≡ f (length earlier, b.candidate) = rw (over_yes t) at e in
-            rw (over_yes t, follow-yes t, again, lt-ltb b.pairs (b.pairs + 1) (omega arith), drop-stored buffer to x (omega arith), next, is)
-        go false t = rw (over_no t, follow-no t, again, le-ltb b.pairs b.pairs (omega arith))
+      go : (t : Bool) → scores here ≡ t
+          → reverse_aux (map f (path_from s (over (first_rows s b.rows) b))) (drop (n - (over (first_rows s b.rows) b).pairs) (cond (ltb b.pairs (over (first_rows s b.rows) b).pairs) (set buffer (n - (over (first_rows s b.rows) b).pairs) x) buffer))
+          ≡ reverse_aux (map f (path_from s b)) (drop (n - b.pairs) buffer)
+      go true t =
+          let next : suc to ≡ n - b.pairs = omega arith in
+          let is : x ≡ f (length earlier, b.candidate) = rw (over_yes t) at e in
+          rw (over_yes t, follow-yes t, again, lt-ltb b.pairs (b.pairs + 1) (omega arith), drop-stored buffer to x (omega arith), next, is)
+      go false t = rw (over_no t, follow-no t, again, le-ltb b.pairs b.pairs (omega arith))

@@ -64,7 +64,7 @@ module _ {s : List ℕ} {n : ℕ} {f : PairField} {whole : List ℕ} {long : ℕ
       → Column s n f whole long r buffer'
   column-turn o l room {r} {x} {buffer'} e k q = record {
     same_length = ap length q ∙ entered-length b r n x buffer ∙ c.same_length;
-    is-stored = rw (q, e) (over-column s b o.reached o.left o.parent f n buffer x (rw e at k) l (omega (arith, c.same_length)) ∙ c.is-stored);
+    is-stored = rw (q, e) (over-column o f n buffer x (rw e at k) l (omega (arith, c.same_length)) ∙ c.is-stored);
   }
 
   pub column-end : b.pairs + length (path_from s b) ≡ n → n ≤ b.pairs → buffer ≡ whole

@@ -18,6 +18,7 @@ pub struct Back {
 }
 
 // Over one record: a row that scores gives a pair, and names the place of the next one; the candidate there is its candidate's parent.
+#[tactic(auto, using(crate::proofs::Steps::step_room))]
 pub fn step_back(journal: &[u32], b: Back) -> Back
     requires { RecordLeft journal.now b }
     ensures { result ≡ over (first_rows journal.now b.rows) b }

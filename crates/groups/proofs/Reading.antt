@@ -28,10 +28,10 @@ use Rattle.groups.proofs.Onto.{onto-joins, onto-apart}
 
 module _ (s : List ℕ) (g : Gathering) (o : RecordLeft s g.back) {next : Back} (e : next ≡ over (first_rows s g.back.rows) g.back) where
   reached-next : Reached s next
-  reached-next = rw e (over-reached s g.back o.reached o.left o.parent)
+  reached-next = rw e (over-reached o)
 
   fewer-next : next.rows < g.back.rows
-  fewer-next = rw e (omega (arith, over-rows s g.back o.reached o.left o.parent, o.left))
+  fewer-next = rw e (omega (arith, over-rows o, o.left))
 
   -- what is left past the record, with this group
   abbrev past : NetelementGroup → Gathering
@@ -41,13 +41,13 @@ module _ (s : List ℕ) (g : Gathering) (o : RecordLeft s g.back) {next : Back} 
   next-rows = omega (arith, fewer-next, reached-few s g.back o.reached)
 
   pub next-inside : next.end ≤ length s
-  next-inside = rw e (over-inside s g.back o.reached o.left o.parent)
+  next-inside = rw e (over-inside o)
 
   paired : (next.pairs ≡ g.back.pairs → ⊥) → (over (first_rows s g.back.rows) g.back).pairs ≡ g.back.pairs → ⊥
   paired q k = q (ap (λ (b : Back). b.pairs) e ∙ k)
 
   pub next-stands : (next.pairs ≡ g.back.pairs → ⊥) → CandidateStands (drop next.end s) g.back.candidate
-  next-stands q = rw e (over-candidate s g.back o.reached o.left o.parent (paired q))
+  next-stands q = rw e (over-candidate o (paired q))
 
   pub next-head : (next.pairs ≡ g.back.pairs → ⊥) → first_cell ≤ length (drop next.end s)
   next-head q = omega (arith, (next-stands q).room)
@@ -56,7 +56,7 @@ module _ (s : List ℕ) (g : Gathering) (o : RecordLeft s g.back) {next : Back} 
   pub no-state : next.pairs ≡ g.back.pairs → RecordTaken s g (record { begun = g.begun; ended = false; group = g.group; back = next })
   no-state q = record {
     reached = reached-next;
-    same = ap (onto (group_read g)) (sym (ap (map (state_at (rows_in s))) (over-quiet s g.back o.reached o.left o.parent (rw e at q) ∙ ap (path_from s) (sym e))));
+    same = ap (onto (group_read g)) (sym (ap (map (state_at (rows_in s))) (over-quiet o (rw e at q) ∙ ap (path_from s) (sym e))));
     ends = λ k. clash k refl;
     fewer = λ _. fewer-next;
   }
@@ -65,8 +65,8 @@ module _ (s : List ℕ) (g : Gathering) (o : RecordLeft s g.back) {next : Back} 
   module _ (q : next.pairs ≡ g.back.pairs → ⊥) {m : ℕ} (at : m ≡ (read_row (drop next.end s)).minute) {c : Candidate} (is : c ≡ (cell_of (read_row (drop next.end s)) g.back.candidate).candidate) where
     states-split : states_from s g.back ≡ state_of next.rows m c ∷ states_from s next
     states-split =
-        ap (map (state_at (rows_in s))) (over-pair s g.back o.reached o.left o.parent (paired q))
-        ∙ rw (at, is, e, over-row s g.back o.reached o.left o.parent (paired q))
+        ap (map (state_at (rows_in s))) (over-pair o (paired q))
+        ∙ rw (at, is, e, over-row o (paired q))
 
     pub first-state : g.begun ≡ false → RecordTaken s g (past (alone (state_of next.rows m c)))
     first-state b = record {

@@ -2,6 +2,7 @@
 use native.Mathlib.Omega.{arith}
 use mathlib.Core.Path.{refl, ap, ◌∙◌}
 use lib.ListN.{length}
+use Rattle.closing.specs.inner.Walk.{RecordLeft}
 use Rattle.closing.proofs.Steps.{over-rows, over-reached, over-counts}
 use Rattle.closing.proofs.Storing.{path-stops, path-ends}
 use Rattle.closing.proofs.walk.path_length.Goals as goal
@@ -9,17 +10,21 @@ use Rattle.closing.proofs.walk.path_length.Goals as goal
 pub loop-b-init : goal.loop-b-init
 loop-b-init c = (c.requires, refl)
 
-pub returns-then-b-eq31 : goal.returns-then-b-eq31
-returns-then-b-eq31 c = omega (arith, c.loop-b.invariant.1, ap length (path-stops c.args.journal.now c.loop-b.b c.if-b-eq31.true))
-
 pub step_back-b-requires : goal.step_back-b-requires
-step_back-b-requires c = record { reached = c.loop-b.invariant.0; left = c.loop-b-test.true; parent = c.if-b-eq31.false }
+step_back-b-requires c = record { reached = c.loop-b.invariant.0; left = c.loop-b-test.true; parent = c.if-b-ne-NO_PARENT.true }
 
 pub loop-b-smaller : goal.loop-b-smaller
-loop-b-smaller c = rw c.step_back-b.ensures (omega (arith, over-rows _ _ c.loop-b.invariant.0 c.loop-b-test.true c.if-b-eq31.false))
+loop-b-smaller c =
+    let o : RecordLeft c.args.journal.now c.loop-b.b = record { reached = c.loop-b.invariant.0; left = c.loop-b-test.true; parent = c.if-b-ne-NO_PARENT.true } in
+    rw c.step_back-b.ensures (omega (arith, over-rows o))
 
 pub loop-b-preserved : goal.loop-b-preserved
-loop-b-preserved c = rw c.step_back-b.ensures (over-reached _ _ c.loop-b.invariant.0 c.loop-b-test.true c.if-b-eq31.false, over-counts _ _ c.loop-b.invariant.0 c.loop-b-test.true c.if-b-eq31.false ∙ c.loop-b.invariant.1)
+loop-b-preserved c =
+    let o : RecordLeft c.args.journal.now c.loop-b.b = record { reached = c.loop-b.invariant.0; left = c.loop-b-test.true; parent = c.if-b-ne-NO_PARENT.true } in
+    rw c.step_back-b.ensures (over-reached o, over-counts o ∙ c.loop-b.invariant.1)
 
-pub returns : goal.returns
-returns c = omega (arith, c.loop-b.invariant.1, ap length (path-ends c.args.journal.now c.loop-b.b (omega arith)))
+pub returns-else-b-ne-NO_PARENT : goal.returns-else-b-ne-NO_PARENT
+returns-else-b-ne-NO_PARENT c = omega (arith, c.loop-b.invariant.1, ap length (path-stops c.args.journal.now c.loop-b.b c.if-b-ne-NO_PARENT.false))
+
+pub returns-after-loop-b : goal.returns-after-loop-b
+returns-after-loop-b c = omega (arith, c.loop-b.invariant.1, ap length (path-ends c.args.journal.now c.loop-b.b (omega arith)))

@@ -6,10 +6,10 @@ use Rattle.closing.proofs.Steps.{over-pairs, over-rows, reached-few}
 use Rattle.closing.proofs.walk.store_back.Goals as goal
 
 pub overflow_sub-i : goal.overflow_sub-i
-overflow_sub-i c = rw c.step_back-next.ensures (omega (arith, over-pairs _ _ c.requires.record_left.reached c.requires.record_left.left c.requires.record_left.parent))
+overflow_sub-i c = rw c.step_back-next.ensures (omega (arith, over-pairs c.requires.record_left))
 
 pub overflow_cast-rows : goal.overflow_cast-rows
-overflow_cast-rows c = rw c.step_back-next.ensures (omega (arith, over-rows _ _ c.requires.record_left.reached c.requires.record_left.left c.requires.record_left.parent, reached-few _ _ c.requires.record_left.reached))
+overflow_cast-rows c = rw c.step_back-next.ensures (omega (arith, over-rows c.requires.record_left, reached-few _ _ c.requires.record_left.reached))
 
 pub returns-then-b-next : goal.returns-then-b-next
 unfolding pair_stored

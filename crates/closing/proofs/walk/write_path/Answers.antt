@@ -16,10 +16,10 @@ store_back-b-requires c =
     }
 
 pub loop-b-smaller : goal.loop-b-smaller
-loop-b-smaller c = let o = path-onward c.args.journal.now c.loop-b.b c.loop-b.invariant.0 (omega (arith, c.loop-b.invariant.1, c.loop-b-test.true)) in rw c.store_back-b.ensures.value (omega (arith, over-rows _ _ o.reached o.left o.parent))
+loop-b-smaller c = let o = path-onward c.args.journal.now c.loop-b.b c.loop-b.invariant.0 (omega (arith, c.loop-b.invariant.1, c.loop-b-test.true)) in rw c.store_back-b.ensures.value (omega (arith, over-rows o))
 
 pub loop-b-preserved : goal.loop-b-preserved
-loop-b-preserved c = let o = path-onward c.args.journal.now c.loop-b.b c.loop-b.invariant.0 (omega (arith, c.loop-b.invariant.1, c.loop-b-test.true)) in (rw c.store_back-b.ensures.value (over-reached _ _ o.reached o.left o.parent), rw c.store_back-b.ensures.value (over-counts _ _ o.reached o.left o.parent ∙ c.loop-b.invariant.1), column-turn c.loop-b.invariant.2 o c.loop-b-test.true c.requires.n_in_bounds.0 c.store_back-b.ensures.value refl c.store_back-b.ensures.rows_after, column-turn c.loop-b.invariant.3 o c.loop-b-test.true c.requires.n_in_bounds.1 c.store_back-b.ensures.value refl c.store_back-b.ensures.candidates_after)
+loop-b-preserved c = let o = path-onward c.args.journal.now c.loop-b.b c.loop-b.invariant.0 (omega (arith, c.loop-b.invariant.1, c.loop-b-test.true)) in (rw c.store_back-b.ensures.value (over-reached o), rw c.store_back-b.ensures.value (over-counts o ∙ c.loop-b.invariant.1), column-turn c.loop-b.invariant.2 o c.loop-b-test.true c.requires.n_in_bounds.0 c.store_back-b.ensures.value refl c.store_back-b.ensures.rows_after, column-turn c.loop-b.invariant.3 o c.loop-b-test.true c.requires.n_in_bounds.1 c.store_back-b.ensures.value refl c.store_back-b.ensures.candidates_after)
 
 pub shape_of-rows : goal.shape_of-rows
 shape_of-rows c = c.loop-b.invariant.2.same_length
