@@ -1,5 +1,5 @@
 -- `network::check::elements_differ` meets its contract.
-use Rattle.std.proofs.Common.{arith, rules, sym}
+use Rattle.std.proofs.Common.{rules, sym}
 use Rattle.lists.proofs.Loops.{every-none, every-kept, every-all-kept}
 use Rattle.network.specs.Network.{elements_differ}
 use Rattle.network.proofs.check.elements_differ.Goals as goal

@@ -1,5 +1,5 @@
 -- `network::check::sides_fit` meets its contract.
-use Rattle.std.proofs.Common.{arith, rules, sym}
+use Rattle.std.proofs.Common.{rules, sym}
 use Rattle.lists.proofs.Loops.{every-none, every-kept, every-all-kept}
 use Rattle.network.specs.Network.{sides_fit}
 use Rattle.network.proofs.check.sides_fit.Goals as goal

@@ -1,5 +1,5 @@
 -- `network::link::is_shut` meets its contract.
-use Rattle.std.proofs.Common.{arith, rules, sym}
+use Rattle.std.proofs.Common.{rules, sym}
 use Rattle.lists.proofs.Loops.{any_none, any-turn, any-done, any-stop}
 use Rattle.network.specs.Graph.{is_shut}
 use Rattle.network.proofs.Shut.{open-past}
