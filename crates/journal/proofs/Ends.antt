@@ -140,7 +140,7 @@ unfolding survey
 survey-rows s n u p m e = go (read_journal s) refl e
   where
     go : (o : Option (List Row)) → read_journal s ≡ o → survey_of (used s) o ≡ well_formed n u p m → Surveyed s n u p m
-    go none q k = let z : ◌≡◌ {A = ℕ} 0 1 = cc in absurd (omega arith)
+    go none q k = cc
     go (some rs) q k =
         let same = same-ok k in
         record {
@@ -152,13 +152,20 @@ survey-rows s n u p m e = go (read_journal s) refl e
           minute = ap (λ (f : Survey). f.minute) same;
         }
 
-pub survey-no : (s : List ℕ) → survey s ≡ not_well_formed → read_journal s ≡ none
+-- it is refused by check 7 alone, where the words are not well formed
+not-formed : (s : List ℕ) {r : Refusal} → survey s ≡ Err r → (read_journal s ≡ none) × (r ≡ Refusal.Journal)
 unfolding survey
-survey-no s e = go (read_journal s) refl e
+not-formed s {r} e = go (read_journal s) refl e
   where
-    go : (o : Option (List Row)) → read_journal s ≡ o → survey_of (used s) o ≡ not_well_formed → read_journal s ≡ none
-    go none q k = q
-    go (some rs) q k = let z : ◌≡◌ {A = ℕ} 0 1 = cc in absurd (omega arith)
+    go : (o : Option (List Row)) → read_journal s ≡ o → survey_of (used s) o ≡ Err r → (read_journal s ≡ none) × (r ≡ Refusal.Journal)
+    go none q k = (q, cc)
+    go (some rs) q k = cc
+
+pub survey-no : (s : List ℕ) {r : Refusal} → survey s ≡ Err r → read_journal s ≡ none
+survey-no s e = (not-formed s e).0
+
+pub survey-refused : (s : List ℕ) {r : Refusal} → survey s ≡ Err r → r ≡ Refusal.Journal
+survey-refused s e = (not-formed s e).1
 
 -- ---- striking
 
@@ -166,9 +173,9 @@ survey-no s e = go (read_journal s) refl e
 abbrev pub Struck : List ℕ → ℕ → Checked → List ℕ → Type 0
 Struck s n a t = (a ≡ (striking s n).0) × (t ≡ (striking s n).1)
 
-pub struck-not : (s : List ℕ) (n : ℕ) → survey s ≡ not_well_formed → Struck s n (Err Refusal.Journal) s
+pub struck-not : (s : List ℕ) (n : ℕ) {r : Refusal} → survey s ≡ Err r → Struck s n (Err r) s
 unfolding striking
-struck-not s n e = rw (survey-no s e) (refl, refl)
+struck-not s n e = rw (survey-no s e, survey-refused s e) (refl, refl)
 
 module _ (s : List ℕ) (n rows u : ℕ) (p : RustOption Predecessor) (m : ℕ) (e : survey s ≡ well_formed rows u p m) where
   pub struck-stand : n ≤ rows → RowsAtLeast s n

@@ -16,7 +16,7 @@ use Rattle.journal.specs.declared.call.PrecedingRow.{PrecedingRow}
 use Rattle.journal.specs.declared.check.Predecessor.{Predecessor}
 use Rattle.std.proofs.lemmas.Option.{same_Some}
 use Rattle.journal.proofs.Lists.{some-none}
-use Rattle.journal.proofs.Ends.{formed, survey-rows, survey-no}
+use Rattle.journal.proofs.Ends.{formed, survey-rows, survey-no, survey-refused}
 
 -- what is told of the row that check 7 found
 abbrev pub told : RustOption Predecessor → RustOption PrecedingRow
@@ -64,9 +64,9 @@ latest-inside rs place row c e = go (predecessor rs) refl (ap told (sym e) ∙ l
         let same : row ≡ predecessor_number rs = ap (λ (r : PrecedingRow). r.row) (same_Some _ _ k) in
         omega (arith, (number_at rs p p q).0)
 
-pub preceding-not : (s : List ℕ) → survey s ≡ not_well_formed → Err Refusal.Journal ≡ preceding s
+pub preceding-not : (s : List ℕ) {r : Refusal} → survey s ≡ Err r → Err r ≡ preceding s
 unfolding preceding
-preceding-not s e = rw (survey-no s e)
+preceding-not s e = rw (survey-no s e, survey-refused s e)
 
 module _ (s : List ℕ) (rows u : ℕ) (p : RustOption Predecessor) (m : ℕ) (e : survey s ≡ well_formed rows u p m) where
   pub preceding-told : (q : RustOption Predecessor) → p ≡ q → Ok (told q) ≡ preceding s

@@ -62,10 +62,6 @@ row-distance ws d k h =
 
 -- ---- what the row reader finds
 
-cond-and : {A : Type 0} (a b : Bool) (x y : A) → cond (a && b) x y ≡ cond a (cond b x y) y
-cond-and true b x y = refl
-cond-and false b x y = refl
-
 pub record-none : (place since q n : ℕ) (ws : List ℕ) → length ws ≡ 0 → record_at place since q n ws ≡ None
 record-none place since q n [] e = unfold record_at well_read record_of in refl
 record-none place since q n (w ∷ ws) e = absurd (omega arith)
@@ -92,40 +88,16 @@ found_at place w body = cc (length_at place w body, size_is w body, scores-at w 
 -- test by test
 pub record-at : (place since q n : ℕ) (ws : List ℕ) → 0 < length ws
     → record_at place since q n ws
-    ≡ cond (eqb (get_or ws 0 0 / 1024) 262144)
-    (cond (leb (head_count (get_or ws 0 0)) candidate_limit)
-    (cond (eqb (head_before (get_or ws 0 0)) (before_of q (head_count (get_or ws 0 0))))
-    (cond (leb (record_length (head_count (get_or ws 0 0)) (head_before (get_or ws 0 0))) (length ws))
-    (cond (body_reads place since (head_count (get_or ws 0 0)) (head_before (get_or ws 0 0)) n ws) (found (head_count (get_or ws 0 0)) (head_before (get_or ws 0 0)) ws) None)
-    None)
-    None)
-    None)
+    ≡ cond (eqb (get_or ws 0 0 / 1024) 262144
+    && (leb (head_count (get_or ws 0 0)) candidate_limit
+    && (eqb (head_before (get_or ws 0 0)) (before_of q (head_count (get_or ws 0 0)))
+    && (leb (record_length (head_count (get_or ws 0 0)) (head_before (get_or ws 0 0))) (length ws)
+    && body_reads place since (head_count (get_or ws 0 0)) (head_before (get_or ws 0 0)) n ws))))
+    (found (head_count (get_or ws 0 0)) (head_before (get_or ws 0 0)) ws)
     None
+unfolding record_at
 record-at place since q n [] h = absurd (omega arith)
 record-at place since q n (w ∷ body) h =
-    let c = head_count w in
-    let p = head_before w in
-    let r = found c p (w ∷ body) in
-    let b3 = leb (record_length c p) (suc (length body)) in
-    let b4 = body_reads place since c p n (w ∷ body) in
-    let whole : record_at place since q n (w ∷ body) ≡ cond (well_read (record_of place) read_row (row_ok since q n) (w ∷ body)) (whole_record (length (record_of place (read_row (w ∷ body)))) (row_size (read_row (w ∷ body))) (scores (read_row (w ∷ body))) (read_row (w ∷ body)).minute) None = unfold record_at in refl in
-    whole
-    ∙ ap (λ (x : Row). cond (well_read (record_of place) read_row (row_ok since q n) (w ∷ body)) (whole_record (length (record_of place x)) (row_size x) (scores x) x.minute) None) (row_is w body)
-    ∙ ap (λ (x : RustOption Record). cond (well_read (record_of place) read_row (row_ok since q n) (w ∷ body)) x None) (found_at place w body)
-    ∙ ap (λ (b : Bool). cond b r None) (record-test place since q n w body)
-    ∙ cond-and (eqb (w / 1024) 262144) (leb c candidate_limit && (eqb p (before_of q c) && (b3 && b4))) r None
-    ∙ ap (λ (x : RustOption Record). cond (eqb (w / 1024) 262144) x None)
-    (cond-and (leb c candidate_limit) (eqb p (before_of q c) && (b3 && b4)) r None
-    ∙ ap (λ (x : RustOption Record). cond (leb c candidate_limit) x None)
-    (cond-and (eqb p (before_of q c)) (b3 && b4) r None
-    ∙ ap (λ (x : RustOption Record). cond (eqb p (before_of q c)) x None) (cond-and b3 b4 r None)))
-
--- by what each test gives
-pub record-by : (place since q n : ℕ) (ws : List ℕ) (a b d e f : Bool) → 0 < length ws
-    → eqb (get_or ws 0 0 / 1024) 262144 ≡ a
-    → leb (head_count (get_or ws 0 0)) candidate_limit ≡ b
-    → eqb (head_before (get_or ws 0 0)) (before_of q (head_count (get_or ws 0 0))) ≡ d
-    → leb (record_length (head_count (get_or ws 0 0)) (head_before (get_or ws 0 0))) (length ws) ≡ e
-    → body_reads place since (head_count (get_or ws 0 0)) (head_before (get_or ws 0 0)) n ws ≡ f
-    → cond a (cond b (cond d (cond e (cond f (found (head_count (get_or ws 0 0)) (head_before (get_or ws 0 0)) ws) None) None) None) None) None ≡ record_at place since q n ws
-record-by place since q n ws a b d e f h i j k l m = sym (record-at place since q n ws h ∙ rw (i, j, k, l, m))
+    let ok = well_read (record_of place) read_row (row_ok since q n) (w ∷ body) in
+    ap (λ (x : Row). cond ok (whole_record (length (record_of place x)) (row_size x) (scores x) x.minute) None) (row_is w body)
+    ∙ cc (found_at place w body, record-test place since q n w body)

@@ -6,21 +6,23 @@ use mathlib.Core.Path.{◌≡◌, refl, sym, ap, ◌∙◌}
 use mathlib.Core.Bool.{Bool, true, false, ◌&&◌, cond}
 use mathlib.Core.List.{List, [], ◌∷◌}
 use mathlib.Core.Option.{Option, none, some}
-use Rattle.std.specs.Prelude.{Option as RustOption, None}
+use Rattle.std.specs.Prelude.{Result, Ok, Option as RustOption, Some, None}
 use lib.Dec.{T, eqb, leb}
 use lib.ListN.{length, get_or, take, drop, length-append, length-drop, drop_of_length-le}
 use lib.Seq.{drop-drop}
 use lib.Ieee.Fits.{and_l, and_r}
-use Rattle.std.proofs.lemmas.Option.{same_Some}
+use Rattle.std.proofs.lemmas.Option.{same_Some, none-some}
 use Rattle.binary64.proofs.Order.{taken}
 use Rattle.journal.specs.Lists.{starts}
 use Rattle.journal.specs.Row.{Row, row_size, scores, predecessor, size_of, latest_minute}
 use Rattle.journal.specs.Ranges.{candidate_limit, row_limit}
 use Rattle.journal.specs.Record.{used_word, read_row}
 use Rattle.journal.specs.Journal.{words, predecessor_place, record_on, row_ok, record_ok, read_rows, used, used_words, read_journal}
-use Rattle.journal.specs.inner.Check.{well_read, whole_record, record_at, predecessor_at, latest_of, candidates_of, place_of, well_formed, not_well_formed, survey_of, survey}
+use Rattle.journal.specs.inner.Check.{well_read, whole_record, record_at, predecessor_at, latest_of, candidates_of, place_of, not_well_formed, survey_of, survey}
 use Rattle.journal.specs.declared.read.Record.{Record}
 use Rattle.journal.specs.declared.check.Predecessor.{Predecessor}
+use Rattle.journal.specs.declared.check.Survey.{Survey}
+use Rattle.refusals.specs.declared.Refusal.{Refusal}
 use Rattle.journal.proofs.Lists.{starts-split}
 use Rattle.journal.proofs.Rules.{row-rules}
 use Rattle.journal.proofs.Reading.{record-least, read_at, read-end}
@@ -86,9 +88,6 @@ latest-new r rs = refl
 
 -- ---- one record
 
-whole-bad : {A : Type 0} {l c m : ℕ} {s : Bool} → None ≡ whole_record l c s m → A
-whole-bad e = let z : ◌≡◌ {A = ℕ} 0 1 = cc in absurd (omega arith)
-
 module _ (rs : List Row) (ws : List ℕ) where
   abbrev passes : Bool
   passes = record_ok rs (read_row ws) ws
@@ -98,27 +97,27 @@ module _ (rs : List Row) (ws : List ℕ) where
   is_ok = refl
 
   -- what a whole record is
-  pub record Found (l c : ℕ) (s : Bool) (m : ℕ) : Type 0 where
-    pub long : l ≡ length (record_on rs (read_row ws))
-    pub many : c ≡ row_size (read_row ws)
-    pub score : s ≡ scores (read_row ws)
-    pub minute : m ≡ (read_row ws).minute
+  pub record Found (r : Record) : Type 0 where
+    pub long : r.length ≡ length (record_on rs (read_row ws))
+    pub many : r.candidates ≡ row_size (read_row ws)
+    pub score : r.scores ≡ scores (read_row ws)
+    pub minute : r.minute ≡ (read_row ws).minute
     pub ok : T (record_ok rs (read_row ws) ws)
 
-  found : (l c : ℕ) (s : Bool) (m : ℕ) → record_at (predecessor_place rs) (latest_minute rs) (size_of (predecessor rs)) (length rs) ws ≡ whole_record l c s m → Found l c s m
-  found l c s m e = go passes refl (sym is_ok ∙ e)
+  found : (r : Record) → record_at (predecessor_place rs) (latest_minute rs) (size_of (predecessor rs)) (length rs) ws ≡ Some r → Found r
+  found r e = go passes refl (sym is_ok ∙ e)
     where
-      go : (b : Bool) → passes ≡ b → cond b (whole_record (length (record_on rs (read_row ws))) (row_size (read_row ws)) (scores (read_row ws)) (read_row ws).minute) None ≡ whole_record l c s m → Found l c s m
+      go : (b : Bool) → passes ≡ b → cond b (whole_record (length (record_on rs (read_row ws))) (row_size (read_row ws)) (scores (read_row ws)) (read_row ws).minute) None ≡ Some r → Found r
       go true q k =
           let same = sym (same_Some _ _ k) in
-          record { long = ap (λ (r : Record). r.length) same; many = ap (λ (r : Record). r.candidates) same; score = ap (λ (r : Record). r.scores) same; minute = ap (λ (r : Record). r.minute) same; ok = taken q }
-      go false q k = whole-bad k
+          record { long = ap (λ (x : Record). x.length) same; many = ap (λ (x : Record). x.candidates) same; score = ap (λ (x : Record). x.scores) same; minute = ap (λ (x : Record). x.minute) same; ok = taken q }
+      go false q k = absurd (none-some _ k)
 
   bad : record_at (predecessor_place rs) (latest_minute rs) (size_of (predecessor rs)) (length rs) ws ≡ None → record_ok rs (read_row ws) ws ≡ false
   bad e = go passes refl (sym is_ok ∙ e)
     where
       go : (b : Bool) → passes ≡ b → cond b (whole_record (length (record_on rs (read_row ws))) (row_size (read_row ws)) (scores (read_row ws)) (read_row ws).minute) None ≡ None → passes ≡ false
-      go true q k = whole-bad (sym k)
+      go true q k = absurd (none-some _ (sym k))
       go false q k = q
 
   -- a record lies within the words, and has five at least
@@ -135,24 +134,25 @@ module _ (rs : List Row) (ws : List ℕ) where
 
 -- ---- the walk
 
--- what the row reader is asked, which is lent `&journal[at..]`
-pub record-asked : (journal : List ℕ) (latest : RustOption Predecessor) (reached at rows place q : ℕ) → place ≡ place_of latest → q ≡ candidates_of latest
-    → record_at (place_of latest) reached (candidates_of latest) rows (drop at journal) ≡ record_at place reached q rows (take (length journal - at) (drop at journal))
-record-asked journal latest reached at rows place q e f = rw (e, f, take_rest at journal)
+-- the row reader is lent `&journal[at..]`
+pub record-asked : (journal : List ℕ) (v : Survey) {place q : ℕ} {answer : RustOption Record} → place ≡ place_of v.latest → q ≡ candidates_of v.latest
+    → answer ≡ record_at place v.minute q v.rows (take (length journal - v.used) (drop v.used journal))
+    → record_at (place_of v.latest) v.minute (candidates_of v.latest) v.rows (drop v.used journal) ≡ answer
+record-asked journal v e f h = rw (h, e, f, take_rest v.used journal)
 
--- at a place of the used words, with so many rows read, this predecessor of a further one, and the last at the minute `reached`
-pub record Walked (journal : List ℕ) (at rows : ℕ) (latest : RustOption Predecessor) (reached : ℕ) : Type 0 where
+-- at a place of the used words, with so many rows read, a predecessor of a further one, and the minute of the last
+pub record Walked (journal : List ℕ) (v : Survey) : Type 0 where
   pub standing : List Row
-  pub counted : length standing ≡ rows
-  pub few : rows ≤ row_limit
-  pub placed : suc (length (words standing)) ≡ at
-  pub inside : at ≤ length journal
-  pub last : latest_of standing ≡ latest
-  pub size : candidates_of latest ≤ candidate_limit
-  pub minute : latest_minute standing ≡ reached
-  pub left : read_rows (row_limit - rows) standing (drop at journal) ≡ read_rows row_limit [] (drop 1 journal)
+  pub counted : length standing ≡ v.rows
+  pub few : v.rows ≤ row_limit
+  pub placed : suc (length (words standing)) ≡ v.used
+  pub inside : v.used ≤ length journal
+  pub last : latest_of standing ≡ v.latest
+  pub size : candidates_of v.latest ≤ candidate_limit
+  pub minute : latest_minute standing ≡ v.minute
+  pub left : read_rows (row_limit - v.rows) standing (drop v.used journal) ≡ read_rows row_limit [] (drop 1 journal)
 
-pub walked_start : (journal : List ℕ) → 1 ≤ length journal → Walked journal 1 0 None 0
+pub walked_start : (journal : List ℕ) → 1 ≤ length journal → Walked journal (record { rows = 0; used = 1; latest = None; minute = 0 })
 walked_start journal h = record {
   standing = [];
   counted = refl;
@@ -165,95 +165,107 @@ walked_start journal h = record {
   left = refl;
 }
 
-module _ (journal : List ℕ) (at rows : ℕ) (latest : RustOption Predecessor) (reached : ℕ) (w : Walked journal at rows latest reached) where
+module _ (journal : List ℕ) (v : Survey) (w : Walked journal v) where
+  abbrev rest : List ℕ
+  rest = drop v.used journal
+
+  -- what the row reader finds next
+  abbrev next : RustOption Record
+  next = record_at (place_of v.latest) v.minute (candidates_of v.latest) v.rows rest
+
+  -- what is found of the whole journal
+  abbrev whole : Result Survey Refusal
+  whole = survey_of (length journal) (read_rows row_limit [] (drop 1 journal))
+
   -- as the row reader is asked
-  asked : record_at (place_of latest) reached (candidates_of latest) rows (drop at journal) ≡ record_at (predecessor_place w.standing) (latest_minute w.standing) (size_of (predecessor w.standing)) (length w.standing) (drop at journal)
+  asked : next ≡ record_at (predecessor_place w.standing) (latest_minute w.standing) (size_of (predecessor w.standing)) (length w.standing) rest
   asked =
-      ap (λ (x : RustOption Predecessor). record_at (place_of x) reached (candidates_of x) rows (drop at journal)) (sym w.last)
+      ap (λ (x : RustOption Predecessor). record_at (place_of x) v.minute (candidates_of x) v.rows rest) (sym w.last)
       ∙ rw (latest-size w.standing, latest-place w.standing, ← w.counted, ← w.minute)
 
   -- a place that a word of kind 7 has bits for, where the journal's length has
-  pub walked-place : length journal < 268435456 → place_of latest < 268435456
+  pub walked-place : length journal < 268435456 → place_of v.latest < 268435456
   walked-place h =
-      let same : predecessor_place w.standing ≡ place_of latest = sym (latest-place w.standing) ∙ ap place_of w.last in
+      let same : predecessor_place w.standing ≡ place_of v.latest = sym (latest-place w.standing) ∙ ap place_of w.last in
       omega (arith, place_inside w.standing, w.placed, w.inside)
 
-  module _ (here : at < length journal) where
-    some_left : 0 < length (drop at journal)
+  module _ (here : v.used < length journal) where
+    some_left : 0 < length rest
     some_left = simp length-drop (omega arith)
 
     -- no room for a further row
-    pub walked-full : rows ≡ row_limit → survey_of (length journal) (read_rows row_limit [] (drop 1 journal)) ≡ not_well_formed
+    pub walked-full : v.rows ≡ row_limit → not_well_formed ≡ whole
     walked-full e =
-        let none_left : row_limit - rows ≡ 0 = omega arith in
-        ap (survey_of (length journal)) (sym w.left ∙ ap (λ (n : ℕ). read_rows n w.standing (drop at journal)) none_left ∙ full w.standing (drop at journal) some_left)
+        let none_left : row_limit - v.rows ≡ 0 = omega arith in
+        ap (survey_of (length journal)) (sym (sym w.left ∙ ap (λ (n : ℕ). read_rows n w.standing rest) none_left ∙ full w.standing rest some_left))
       where
         full : (rs : List Row) (ws : List ℕ) → 0 < length ws → read_rows 0 rs ws ≡ none
         full rs [] h = absurd (omega arith)
         full rs (x ∷ ws) h = unfold read_rows in refl
 
-    module _ (room : rows < row_limit) where
-      one_more : row_limit - rows ≡ suc (row_limit - (rows + 1))
-      one_more = omega arith
+    module _ (room : v.rows ≡ row_limit → ⊥) where
+      one_more : row_limit - v.rows ≡ suc (row_limit - (v.rows + 1))
+      one_more = omega (arith, w.few)
 
       -- no record
-      pub walked-bad : record_at (place_of latest) reached (candidates_of latest) rows (drop at journal) ≡ None → survey_of (length journal) (read_rows row_limit [] (drop 1 journal)) ≡ not_well_formed
+      pub walked-bad : next ≡ None → not_well_formed ≡ whole
       walked-bad e =
           ap (survey_of (length journal))
-          (sym w.left ∙ ap (λ (n : ℕ). read_rows n w.standing (drop at journal)) one_more
-          ∙ broken (row_limit - (rows + 1)) w.standing (drop at journal) some_left (bad w.standing (drop at journal) (sym asked ∙ e)))
+          (sym (sym w.left ∙ ap (λ (n : ℕ). read_rows n w.standing rest) one_more ∙ broken (row_limit - (v.rows + 1)) w.standing rest some_left (bad w.standing rest (sym asked ∙ e))))
         where
           broken : (n : ℕ) (rs : List Row) (ws : List ℕ) → 0 < length ws → record_ok rs (read_row ws) ws ≡ false → read_rows (suc n) rs ws ≡ none
           broken n rs [] h q = absurd (omega arith)
           broken n rs (x ∷ ws) h q = unfold read_rows in rw q
 
       -- a record: its length, and the walk past it
-      module _ (l c : ℕ) (s : Bool) (m : ℕ) (e : record_at (place_of latest) reached (candidates_of latest) rows (drop at journal) ≡ whole_record l c s m) where
-        one_found : Found w.standing (drop at journal) l c s m
-        one_found = found w.standing (drop at journal) l c s m (sym asked ∙ e)
+      module _ (r : Record) (e : next ≡ Some r) where
+        one_found : Found w.standing rest r
+        one_found = found w.standing rest r (sym asked ∙ e)
 
-        pub walked-room : (5 ≤ l) × (at + l ≤ length journal)
+        pub walked-room : (5 ≤ r.length) × (v.used + r.length ≤ length journal)
         walked-room =
             let f = one_found in
-            let g = fits w.standing (drop at journal) f.ok in
-            (omega (arith, f.long, g.0), omega (arith, f.long, g.1, length-drop at journal))
+            let g = fits w.standing rest f.ok in
+            (omega (arith, f.long, g.0), omega (arith, f.long, g.1, length-drop v.used journal))
 
-        pub walked-turn : Walked journal (at + l) (rows + 1) (cond s (predecessor_at at rows c) latest) m
-        walked-turn =
+        pub walked-turn : {l : RustOption Predecessor} → l ≡ cond r.scores (predecessor_at v.used v.rows r.candidates) v.latest
+            → Walked journal (record { rows = v.rows + 1; used = v.used + r.length; latest = l; minute = r.minute })
+        walked-turn p =
             let f = one_found in
-            let r = read_row (drop at journal) in
+            let row = read_row rest in
             record {
-              standing = r ∷ w.standing;
-              counted = ap suc w.counted ∙ sym (add-one rows);
-              few = omega arith;
-              placed = longer r f.long;
+              standing = row ∷ w.standing;
+              counted = ap suc w.counted ∙ sym (add-one v.rows);
+              few = omega (arith, w.few);
+              placed = longer row f.long;
               inside = walked-room.1;
-              last = latest-new r w.standing ∙ picked r f.many f.score;
-              size = small s;
+              last = latest-new row w.standing ∙ picked row f.many f.score ∙ sym p;
+              size = rw p (small r.scores);
               minute = sym f.minute;
-              left = sym (ap (λ (n : ℕ). read_rows n w.standing (drop at journal)) one_more
-                  ∙ read_at (row_limit - (rows + 1)) w.standing r (drop at journal) some_left refl f.ok
-                  ∙ ap (λ (n : ℕ). read_rows (row_limit - (rows + 1)) (r ∷ w.standing) (drop n (drop at journal))) (sym f.long)
-                  ∙ ap (read_rows (row_limit - (rows + 1)) (r ∷ w.standing)) (drop-drop l at journal)) ∙ w.left;
+              left = sym (ap (λ (n : ℕ). read_rows n w.standing rest) one_more
+                  ∙ read_at (row_limit - (v.rows + 1)) w.standing row rest some_left refl f.ok
+                  ∙ ap (λ (n : ℕ). read_rows (row_limit - (v.rows + 1)) (row ∷ w.standing) (drop n rest)) (sym f.long)
+                  ∙ ap (read_rows (row_limit - (v.rows + 1)) (row ∷ w.standing)) (drop-drop r.length v.used journal)) ∙ w.left;
             }
           where
             -- its candidates, or those of the predecessor before it
-            small : (b : Bool) → candidates_of (cond b (predecessor_at at rows c) latest) ≤ candidate_limit
-            small true = omega (arith, one_found.many, few w.standing (drop at journal) one_found.ok)
+            small : (b : Bool) → candidates_of (cond b (predecessor_at v.used v.rows r.candidates) v.latest) ≤ candidate_limit
+            small true = omega (arith, one_found.many, few w.standing rest one_found.ok)
             small false = w.size
 
-            longer : (r : Row) → l ≡ length (record_on w.standing r) → suc (length (words (r ∷ w.standing))) ≡ at + l
-            longer r q = unfold words in omega (arith, length-append (words w.standing) (record_on w.standing r), w.placed)
+            longer : (row : Row) → r.length ≡ length (record_on w.standing row) → suc (length (words (row ∷ w.standing))) ≡ v.used + r.length
+            longer row q = unfold words in omega (arith, length-append (words w.standing) (record_on w.standing row), w.placed)
 
-            picked : (r : Row) → c ≡ row_size r → s ≡ scores r → cond (scores r) (predecessor_at (suc (length (words w.standing))) (length w.standing) (row_size r)) (latest_of w.standing) ≡ cond s (predecessor_at at rows c) latest
-            picked r a b = cc (w.placed, w.counted, w.last)
+            picked : (row : Row) → r.candidates ≡ row_size row → r.scores ≡ scores row
+                → cond (scores row) (predecessor_at (suc (length (words w.standing))) (length w.standing) (row_size row)) (latest_of w.standing) ≡ cond r.scores (predecessor_at v.used v.rows r.candidates) v.latest
+            picked row a b = rw (w.placed, w.counted, w.last, a, b)
 
   -- the end of the used words
-  pub walked_end : length journal ≤ at → survey_of (length journal) (read_rows row_limit [] (drop 1 journal)) ≡ well_formed rows at latest reached
+  pub walked_end : length journal ≤ v.used → Ok v ≡ whole
   walked_end h =
-      let ended : read_rows row_limit [] (drop 1 journal) ≡ some w.standing = sym w.left ∙ ap (read_rows (row_limit - rows) w.standing) (drop_of_length-le journal h) ∙ read-end (row_limit - rows) w.standing in
-      let all : length journal ≡ at = omega (arith, w.inside) in
-      ap (survey_of (length journal)) ended ∙ cc (w.counted, w.last, w.minute)
+      let ended : read_rows row_limit [] (drop 1 journal) ≡ some w.standing = sym w.left ∙ ap (read_rows (row_limit - v.rows) w.standing) (drop_of_length-le journal h) ∙ read-end (row_limit - v.rows) w.standing in
+      let all : length journal ≡ v.used = omega (arith, w.inside) in
+      sym (ap (survey_of (length journal)) ended ∙ rw (w.counted, all, w.last, w.minute))
 
 -- ---- word 0
 
@@ -261,21 +273,15 @@ module _ (journal : List ℕ) (at rows : ℕ) (latest : RustOption Predecessor) 
 used-kind : (w : ℕ) → eqb w (used_word (w % 268435456)) ≡ eqb (w / 268435456) 5
 used-kind w = kind-word 5 w
 
--- by what each test of word 0 gives
-pub survey-by : (s : List ℕ) (a b d : Bool) → eqb (get_or s 0 0 / 268435456) 5 ≡ a → leb 1 (used s) ≡ b → leb (used s) (length s) ≡ d
-    → cond a (cond b (cond d (survey_of (used s) (read_rows row_limit [] (drop 1 (used_words s)))) not_well_formed) not_well_formed) not_well_formed ≡ survey s
+-- test by test of word 0
+pub survey-is : (s : List ℕ) → survey s
+    ≡ cond (eqb (get_or s 0 0 / 268435456) 5 && (leb 1 (used s) && leb (used s) (length s))) (survey_of (used s) (read_rows row_limit [] (drop 1 (used_words s)))) not_well_formed
 unfolding survey read_journal
-survey-by s a b d e f g = sym (rw (used-kind (get_or s 0 0), e, f, g) (go a b d))
+survey-is s = rw (used-kind (get_or s 0 0)) (go (eqb (get_or s 0 0 / 268435456) 5 && (leb 1 (used s) && leb (used s) (length s))))
   where
     rest : Option (List Row)
     rest = read_rows row_limit [] (drop 1 (used_words s))
 
-    go : (a b d : Bool) → survey_of (used s) (cond (a && (b && d)) rest none) ≡ cond a (cond b (cond d (survey_of (used s) rest) not_well_formed) not_well_formed) not_well_formed
-    go true true true = refl
-    go true true false = refl
-    go true false d = refl
-    go false b d = refl
-
-pub survey-none : (s : List ℕ) → length s ≡ 0 → not_well_formed ≡ survey s
-survey-none [] e = survey-by [] false (leb 1 0) (leb 0 0) refl refl refl
-survey-none (w ∷ s) e = absurd (omega arith)
+    go : (b : Bool) → survey_of (used s) (cond b rest none) ≡ cond b (survey_of (used s) rest) not_well_formed
+    go true = refl
+    go false = refl

@@ -53,24 +53,30 @@ pub fn walk(journal: &[u32]) -> Result<Survey, Refusal>
         if survey.rows == 65535 {
             return Err(Refusal::Journal);
         }
-        let record = read_row(
+        let Some(record) = read_row(
             &journal[survey.used..],
             place_of(survey.latest),
             survey.minute,
             candidates_of(survey.latest),
             survey.rows,
-        )
-        .ok_or(Refusal::Journal)?;
-        if record.scores {
-            survey.latest = Some(Predecessor {
+        ) else {
+            return Err(Refusal::Journal);
+        };
+        let latest = if record.scores {
+            Some(Predecessor {
                 place: survey.used,
                 row: survey.rows,
                 candidates: record.candidates,
-            });
-        }
-        survey.used += record.length;
-        survey.rows += 1;
-        survey.minute = record.minute;
+            })
+        } else {
+            survey.latest
+        };
+        survey = Survey {
+            rows: survey.rows + 1,
+            used: survey.used + record.length,
+            latest,
+            minute: record.minute,
+        };
     }
     Ok(survey)
 }

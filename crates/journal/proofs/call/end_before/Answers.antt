@@ -6,26 +6,23 @@ use Rattle.journal.proofs.call.end_before.Goals as goal
 pub bounds-journal-0 : goal.bounds-journal-0
 bounds-journal-0 c = some_words _ _ c.requires.reads
 
-pub overflow_cast-at : goal.overflow_cast-at
-overflow_cast-at c = omega arith
-
-pub loop-n-init : goal.loop-n-init
-loop-n-init c = (omega arith, ended-start _ _ c.requires)
-
-pub offset_bounds-journal-at : goal.offset_bounds-journal-at
-offset_bounds-journal-at c = omega (arith, ended-room _ _ _ _ c.loop-n.invariant.1 c.loop-n-test.true)
-
-pub bounds-journal-at : goal.bounds-journal-at
-bounds-journal-at c = omega (arith, ended-room _ _ _ _ c.loop-n.invariant.1 c.loop-n-test.true)
+pub loop-init : goal.loop-init
+loop-init c = (omega arith, ended-start _ _ c.requires)
 
 pub overflow_sub-at : goal.overflow_sub-at
-overflow_sub-at c = (ended-room _ _ _ _ c.loop-n.invariant.1 c.loop-n-test.true).2
+overflow_sub-at c = omega (arith, ended-room _ _ _ _ c.loop.invariant.1 c.loop-test.true)
 
-pub loop-n-smaller : goal.loop-n-smaller
-loop-n-smaller c = omega arith
+pub offset_bounds-journal-at : goal.offset_bounds-journal-at
+offset_bounds-journal-at c = omega (arith, ended-room _ _ _ _ c.loop.invariant.1 c.loop-test.true)
 
-pub loop-n-preserved : goal.loop-n-preserved
-loop-n-preserved c = (omega arith, ended-turn _ _ _ _ c.loop-n.invariant.1 c.loop-n-test.true)
+pub bounds-journal-at : goal.bounds-journal-at
+bounds-journal-at c = omega (arith, ended-room _ _ _ _ c.loop.invariant.1 c.loop-test.true)
+
+pub overflow_sub-at-in-loop : goal.overflow_sub-at-in-loop
+overflow_sub-at-in-loop c = (ended-room _ _ _ _ c.loop.invariant.1 c.loop-test.true).2
+
+pub loop-preserved : goal.loop-preserved
+loop-preserved c = (omega arith, ended-turn _ _ _ _ c.loop.invariant.1 c.loop-test.true)
 
 pub returns : goal.returns
-returns c = ended-done _ _ _ _ c.loop-n.invariant.1 (omega arith)
+returns c = ended-done _ _ _ _ c.loop.invariant.1 (omega arith)

@@ -4,8 +4,8 @@ use lib.ListN.{length}
 use Rattle.journal.proofs.Walk.{Walked}
 use Rattle.journal.proofs.check.walk.Given as goal
 
-abbrev pub invariant-loop-at : goal.invariant-loop-at
-invariant-loop-at l = Walked l.journal l.at l.rows l.latest l.reached
+abbrev pub invariant-loop-survey : goal.invariant-loop-survey
+invariant-loop-survey l = Walked l.journal l.survey
 
-abbrev pub decreases-loop-at : goal.decreases-loop-at
-decreases-loop-at l = length l.journal - l.at
+abbrev pub decreases-loop-survey : goal.decreases-loop-survey
+decreases-loop-survey l = length l.journal - l.survey.used
