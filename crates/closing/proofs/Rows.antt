@@ -49,12 +49,12 @@ pub rooms : (n : ℕ) (b : RowBuffers) → n ≤ candidate_room b → Rooms n b
 rooms n b h = omega arith
 
 module _ (ws : List ℕ) where
+  distances-read : length (read_row ws).distances ≡ get_or ws 0 0 % 32 * (get_or ws 0 0 / 32 % 32)
+  unfolding read_row
+  distances-read = length-each read_distance 2 (get_or ws 0 0 % 32 * (get_or ws 0 0 / 32 % 32)) (drop 1 (drop (7 * (get_or ws 0 0 % 32)) (drop first_cell ws)))
+
   many-distances : length (read_row ws).distances ≡ row_size (read_row ws) * (read_row ws).before
-  many-distances = rw (row-size ws, row_before ws) read
-    where
-      read : length (read_row ws).distances ≡ get_or ws 0 0 % 32 * (get_or ws 0 0 / 32 % 32)
-      unfolding read_row
-      read = length-each read_distance 2 (get_or ws 0 0 % 32 * (get_or ws 0 0 / 32 % 32)) (drop 1 (drop (7 * (get_or ws 0 0 % 32)) (drop first_cell ws)))
+  many-distances = rw (row-size ws, row_before ws) distances-read
 
   pub head-whole : RecordWhole ws → first_cell ≤ length ws
   unfolding record_length

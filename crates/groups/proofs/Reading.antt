@@ -1,17 +1,19 @@
 -- A group is read back from the journal. Assumes nothing.
-use Prim.Native.Nat.{ℕ, zero, suc, ◌+◌, ◌<◌, ◌≤◌}
+use Prim.Native.Nat.{ℕ, zero, suc, ◌+◌, ◌-◌, ◌<◌, ◌≤◌}
 use native.Mathlib.Omega.{arith}
+use Rattle.std.specs.Prelude.{Some, None}
 use mathlib.Core.Path.{◌≡◌, refl, sym, ap, ◌∙◌}
 use mathlib.Core.Bool.{Bool, true, false, not, ◌&&◌, cond}
 use mathlib.Core.List.{List, [], ◌∷◌, ◌++◌, map}
 use mathlib.Core.Logic.{◌⊎◌, inl, inr}
 use borrow.Author.Tests.{eqb-true, eqb-false, eq-eqb, ne_eqb}
 use lib.Dec.{eqb}
-use lib.ListN.{length, drop}
+use lib.ListN.{length, take, drop}
 use Rattle.lists.proofs.Loops.{clash, two, and_both}
 use Rattle.journal.specs.Row.{no_parent, cell_of}
 use Rattle.journal.specs.Record.{first_cell, read_row}
 use Rattle.journal.specs.declared.record.Candidate.{Candidate}
+use Rattle.journal.proofs.Stores.{take_rest}
 use Rattle.rows.specs.inner.Scoring.{CandidateStands}
 use Rattle.closing.specs.declared.walk.Back.{Back}
 use Rattle.journal.specs.inner.Rows.{rows_in}
@@ -26,7 +28,11 @@ use Rattle.groups.proofs.Onto.{onto-joins, onto-apart}
 
 -- ---- one record
 
-module _ (s : List ℕ) (g : Gathering) (o : RecordLeft s g.back) {next : Back} (e : next ≡ over (first_rows s g.back.rows) g.back) where
+-- the words from a place on
+abbrev rest : List ℕ → ℕ → List ℕ
+rest s place = take (length s - place) (drop place s)
+
+module _ {s : List ℕ} (g : Gathering) (o : RecordLeft s g.back) {next : Back} (e : next ≡ over (first_rows s g.back.rows) g.back) where
   reached-next : Reached s next
   reached-next = rw e (over-reached o)
 
@@ -35,7 +41,7 @@ module _ (s : List ℕ) (g : Gathering) (o : RecordLeft s g.back) {next : Back} 
 
   -- what is left past the record, with this group
   abbrev past : NetelementGroup → Gathering
-  past group = record { begun = true; ended = false; group = group; back = next }
+  past group = record { group = Some group; ended = false; back = next }
 
   pub next-rows : next.rows < 4294967296
   next-rows = omega (arith, fewer-next, reached-few s g.back o.reached)
@@ -46,14 +52,14 @@ module _ (s : List ℕ) (g : Gathering) (o : RecordLeft s g.back) {next : Back} 
   paired : (next.pairs ≡ g.back.pairs → ⊥) → (over (first_rows s g.back.rows) g.back).pairs ≡ g.back.pairs → ⊥
   paired q k = q (ap (λ (b : Back). b.pairs) e ∙ k)
 
-  pub next-stands : (next.pairs ≡ g.back.pairs → ⊥) → CandidateStands (drop next.end s) g.back.candidate
-  next-stands q = rw e (over-candidate o (paired q))
+  pub next-stands : (next.pairs ≡ g.back.pairs → ⊥) → CandidateStands (rest s next.end) g.back.candidate
+  next-stands q = rw (take_rest, e) (over-candidate o (paired q))
 
-  pub next-head : (next.pairs ≡ g.back.pairs → ⊥) → first_cell ≤ length (drop next.end s)
+  pub next-head : (next.pairs ≡ g.back.pairs → ⊥) → first_cell ≤ length (rest s next.end)
   next-head q = omega (arith, (next-stands q).room)
 
   -- it holds no state
-  pub no-state : next.pairs ≡ g.back.pairs → RecordTaken s g (record { begun = g.begun; ended = false; group = g.group; back = next })
+  pub no-state : next.pairs ≡ g.back.pairs → RecordTaken s g (record { group = g.group; ended = false; back = next })
   no-state q = record {
     reached = reached-next;
     same = ap (onto (group_read g)) (sym (ap (map (state_at (rows_in s))) (over-quiet o (rw e at q) ∙ ap (path_from s) (sym e))));
@@ -62,13 +68,13 @@ module _ (s : List ℕ) (g : Gathering) (o : RecordLeft s g.back) {next : Back} 
   }
 
   -- it holds one
-  module _ (q : next.pairs ≡ g.back.pairs → ⊥) {m : ℕ} (at : m ≡ (read_row (drop next.end s)).minute) {c : Candidate} (is : c ≡ (cell_of (read_row (drop next.end s)) g.back.candidate).candidate) where
+  module _ (q : next.pairs ≡ g.back.pairs → ⊥) {m : ℕ} (at : m ≡ (read_row (rest s next.end)).minute) {c : Candidate} (is : c ≡ (cell_of (read_row (rest s next.end)) g.back.candidate).candidate) where
     states-split : states_from s g.back ≡ state_of next.rows m c ∷ states_from s next
     states-split =
         ap (map (state_at (rows_in s))) (over-pair o (paired q))
-        ∙ rw (at, is, e, over-row o (paired q))
+        ∙ rw (at, is, take_rest, e, over-row o (paired q))
 
-    pub first-state : g.begun ≡ false → RecordTaken s g (past (alone (state_of next.rows m c)))
+    pub first-state : g.group ≡ None → RecordTaken s g (past (alone (state_of next.rows m c)))
     first-state b = record {
       reached = reached-next;
       same = sym (ap (onto (group_read g)) states-split ∙ rw b (unfold onto before in refl));
@@ -76,24 +82,24 @@ module _ (s : List ℕ) (g : Gathering) (o : RecordLeft s g.back) {next : Back} 
       fewer = λ _. fewer-next;
     }
 
-    pub further-state : g.begun ≡ true → c.element ≡ g.group.element → RecordTaken s g (past (with_state (state_of next.rows m c) g.group))
-    further-state b k = record {
+    pub further-state : {group : NetelementGroup} → g.group ≡ Some group → c.element ≡ group.element → RecordTaken s g (past (with_state (state_of next.rows m c) group))
+    further-state {group} b k = record {
       reached = reached-next;
-      same = sym (ap (onto (group_read g)) states-split ∙ rw b (onto-joins g.group (state_of next.rows m c) (states_from s next) (eq-eqb _ _ k)));
+      same = sym (ap (onto (group_read g)) states-split ∙ rw b (onto-joins group (state_of next.rows m c) (states_from s next) (eq-eqb _ _ k)));
       ends = λ k. clash k refl;
       fewer = λ _. fewer-next;
     }
 
-    pub other-state : g.begun ≡ true → (c.element ≡ g.group.element → ⊥) → RecordTaken s g (record { begun = true; ended = true; group = g.group; back = g.back })
-    other-state b k = record {
+    pub other-state : {group : NetelementGroup} → g.group ≡ Some group → (c.element ≡ group.element → ⊥) → RecordTaken s g (record { group = g.group; ended = true; back = g.back })
+    other-state {group} b k = record {
       reached = o.reached;
-      same = rw b;
-      ends = λ _. (record { begun = refl; apart = apart }, (b, refl));
+      same = refl;
+      ends = λ _. (record { group = group; begun = b; apart = rw b apart }, (refl, refl));
       fewer = λ x. clash refl x;
     }
       where
-        apart : onto (g.group ∷ []) (states_from s g.back) ≡ groups_from s g.back ++ (g.group ∷ [])
-        apart = rw states-split (onto-apart g.group (state_of next.rows m c) (states_from s next) (ne_eqb _ _ k))
+        apart : onto (group ∷ []) (states_from s g.back) ≡ groups_from s g.back ++ (group ∷ [])
+        apart = rw states-split (onto-apart group (state_of next.rows m c) (states_from s next) (ne_eqb _ _ k))
 
 -- ---- all records of a group
 
@@ -102,11 +108,11 @@ pub record Going (s : List ℕ) (start : Back) (g : Gathering) : Type 0 where
   pub reached : Reached s g.back
   pub same : pending s g ≡ groups_from s start
   pub few : g.back.rows ≤ start.rows
-  pub fewer : g.begun ≡ true → g.back.rows < start.rows
+  pub fewer : {x : NetelementGroup} → g.group ≡ Some x → g.back.rows < start.rows
   pub ends : g.ended ≡ true → GroupEnded s g
 
-pub going-begin : (s : List ℕ) (start : Back) (g : NetelementGroup) → Reached s start → Going s start (record { begun = false; ended = false; group = g; back = start })
-going-begin s start g h = record { reached = h; same = refl; few = omega arith; fewer = λ k. clash k refl; ends = λ k. clash k refl }
+pub going-begin : (s : List ℕ) (start : Back) → Reached s start → Going s start (record { group = None; ended = false; back = start })
+going-begin s start h = record { reached = h; same = refl; few = omega arith; fewer = λ k. cc; ends = λ k. clash k refl }
 
 -- ---- whether there may be more
 
@@ -151,20 +157,15 @@ module _ (s : List ℕ) (start : Back) (g : Gathering) (h : Going s start g) whe
       positive (suc n) k = omega arith
 
   pub going-turn : (r : Gathering) → RecordTaken s g r → Going s start r
-  going-turn r k = record {
-    reached = k.reached;
-    same = k.same ∙ h.same;
-    few = few (two r.ended);
-    fewer = λ _. fewer (two r.ended);
-    ends = λ e. (k.ends e).0;
-  }
+  going-turn r k = record { reached = k.reached; same = k.same ∙ h.same; few = few (two r.ended); fewer = λ e. fewer e (two r.ended); ends = λ e. (k.ends e).0 }
     where
-      fewer : (r.ended ≡ true) ⊎ (r.ended ≡ false) → r.back.rows < start.rows
-      fewer (inl e) = rw (k.ends e).1.1 (h.fewer (k.ends e).1.0)
-      fewer (inr e) = omega (arith, k.fewer e, h.few)
-
       few : (r.ended ≡ true) ⊎ (r.ended ≡ false) → r.back.rows ≤ start.rows
-      few t = omega (arith, fewer t)
+      few (inl e) = rw (k.ends e).1.1 h.few
+      few (inr e) = omega (arith, k.fewer e, h.few)
+
+      fewer : {x : NetelementGroup} → r.group ≡ Some x → (r.ended ≡ true) ⊎ (r.ended ≡ false) → r.back.rows < start.rows
+      fewer q (inl e) = rw (k.ends e).1.1 (h.fewer (sym (k.ends e).1.0 ∙ q))
+      fewer q (inr e) = omega (arith, k.fewer e, h.few)
 
   pub going_end : goes_on g ≡ false → Gathered s start g
   going_end t = record { reached = h.reached; whole = sym h.same ∙ whole (stops g t); nothing = λ b. sym h.same ∙ nothing b (stops g t); fewer = h.fewer }
@@ -177,6 +178,6 @@ module _ (s : List ℕ) (start : Back) (g : Gathering) (h : Going s start g) whe
       whole (inl e) = (h.ends e).apart ∙ rw (h.ends e).begun
       whole (inr e) = rw (none_left e) (unfold onto in refl)
 
-      nothing : g.begun ≡ false → (g.ended ≡ true) ⊎ ((g.back.rows ≡ 0) ⊎ (g.back.candidate ≡ no_parent)) → pending s g ≡ []
-      nothing b (inl e) = clash (h.ends e).begun b
+      nothing : g.group ≡ None → (g.ended ≡ true) ⊎ ((g.back.rows ≡ 0) ⊎ (g.back.candidate ≡ no_parent)) → pending s g ≡ []
+      nothing b (inl e) = let begun = (h.ends e).begun in cc
       nothing b (inr e) = rw (none_left e, b) (unfold onto in refl)

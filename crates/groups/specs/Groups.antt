@@ -5,14 +5,9 @@ use Rattle.journal.specs.Row.{Row, cell_of, row_number}
 use Rattle.journal.specs.declared.record.Candidate.{Candidate}
 use Rattle.decoder.specs.Closing.{Closed, nothing, path}
 use Rattle.groups.specs.declared.group.NetelementGroup.{NetelementGroup}
+pub use Rattle.groups.specs.declared.group.State.{State}
 
--- a state of the path: a row and its minute, and the element and intrinsic of its candidate there
-pub record State : Type 0 where
-  pub row : ℕ
-  pub minute : ℕ
-  pub element : ℕ
-  pub intrinsic : Float
-
+-- the state of a candidate at a row of that minute
 abbrev pub state_of : ℕ → ℕ → Candidate → State
 state_of row minute c = record { row = row; minute = minute; element = c.element; intrinsic = c.intrinsic }
 

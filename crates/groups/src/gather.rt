@@ -3,7 +3,7 @@ ghost use Rattle.std.specs.Prelude.{◌≡◌};
 ghost use Rattle.closing.specs.inner.Walk.{Reached, RecordLeft};
 ghost use Rattle.groups.specs.inner.Gather.{goes_on, RecordTaken, Gathered};
 
-use crate::group::{NetelementGroup, new_group, update_group};
+use crate::group::{NetelementGroup, State, new_group, update_group};
 use closing::walk::{Back, step_back};
 use journal::read::minute_of;
 use rows::previous::{NO_PARENT, candidate_of};
@@ -40,16 +40,20 @@ fn gather_one(journal: &[u32], g: Gathering) -> Gathering
         };
     }
     let words = &journal[next.end..];
-    let row = next.rows as u32;
-    let minute = minute_of(words);
     let candidate = candidate_of(words, back.candidate as usize);
+    let state = State {
+        row: next.rows as u32,
+        minute: minute_of(words),
+        element: candidate.element,
+        intrinsic: candidate.intrinsic,
+    };
     let group = match g.group {
-        None => new_group(row, minute, candidate),
+        None => new_group(state),
         Some(group) => {
-            if candidate.element != group.element {
+            if state.element != group.element {
                 return Gathering { ended: true, ..g };
             }
-            update_group(group, row, minute, candidate)
+            update_group(group, state)
         }
     };
     Gathering {

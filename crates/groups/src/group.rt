@@ -1,8 +1,15 @@
 // A group of states.
 ghost use Rattle.std.specs.Prelude.{◌≡◌};
-ghost use Rattle.groups.specs.Groups.{state_of, lesser, greater, alone, with_state};
+ghost use Rattle.groups.specs.Groups.{lesser, greater, alone, with_state};
 
-use journal::record::Candidate;
+// A state of the path: a row and its minute, and the element and intrinsic of its candidate there.
+#[derive(Clone, Copy)]
+pub struct State {
+    pub row: u32,
+    pub minute: u32,
+    pub element: u32,
+    pub intrinsic: f64,
+}
 
 // Consecutive states of one element: the least and the greatest intrinsic, the first and the last row, and the minute of the first.
 #[derive(Clone, Copy)]
@@ -31,35 +38,30 @@ fn max(x: f64, y: f64) -> f64
     if x < y { y } else { x }
 }
 
-// The group of one state: a candidate of a row.
-pub fn new_group(row: u32, minute: u32, candidate: Candidate) -> NetelementGroup
-    ensures { result ≡ alone (state_of row minute candidate) }
+// The group of one state.
+pub fn new_group(state: State) -> NetelementGroup
+    ensures { result ≡ alone state }
 {
     NetelementGroup {
-        element: candidate.element,
-        minute,
-        min_intrinsic: candidate.intrinsic,
-        max_intrinsic: candidate.intrinsic,
-        first_row: row,
-        last_row: row,
+        element: state.element,
+        minute: state.minute,
+        min_intrinsic: state.intrinsic,
+        max_intrinsic: state.intrinsic,
+        first_row: state.row,
+        last_row: state.row,
     }
 }
 
 // The group with the state before it.
 #[tactic(auto, unfolding(crate::specs::Groups::with_state))]
-pub fn update_group(
-    group: NetelementGroup,
-    row: u32,
-    minute: u32,
-    candidate: Candidate,
-) -> NetelementGroup
-    ensures { result ≡ with_state (state_of row minute candidate) group }
+pub fn update_group(group: NetelementGroup, state: State) -> NetelementGroup
+    ensures { result ≡ with_state state group }
 {
     NetelementGroup {
-        minute,
-        min_intrinsic: min(candidate.intrinsic, group.min_intrinsic),
-        max_intrinsic: max(candidate.intrinsic, group.max_intrinsic),
-        first_row: row,
+        minute: state.minute,
+        min_intrinsic: min(state.intrinsic, group.min_intrinsic),
+        max_intrinsic: max(state.intrinsic, group.max_intrinsic),
+        first_row: state.row,
         ..group
     }
 }

@@ -4,10 +4,7 @@ use Rattle.groups.proofs.Reading.{going-begin, going-onward, going-turn, going_e
 use Rattle.groups.proofs.gather.gather_group.Goals as goal
 
 pub loop-g-init : goal.loop-g-init
-loop-g-init c = going-begin _ _ _ c.requires
-
-pub goes_on-requires : goal.goes_on-requires
-goes_on-requires c = tt
+loop-g-init c = going-begin _ _ c.requires
 
 pub gather_one-g-requires : goal.gather_one-g-requires
 gather_one-g-requires c = going-onward _ _ _ c.loop-g.invariant (sym c.goes_on.ensures ∙ c.loop-g-test.true)

@@ -1,44 +1,34 @@
 -- `groups::gather::gather_one` meets its contract.
 use native.Mathlib.Omega.{arith}
-use Rattle.journal.proofs.Stores.{take_rest}
 use Rattle.groups.proofs.Reading.{no-state, first-state, further-state, other-state, next-inside, next-stands, next-head, next-rows}
 use Rattle.groups.proofs.gather.gather_one.Goals as goal
 
 pub returns-then-next-back : goal.returns-then-next-back
-returns-then-next-back c = no-state _ c.args.g c.requires c.step_back-next.ensures c.if-next-back.true
+returns-then-next-back c = no-state c.args.g c.requires c.step_back-next.ensures c.if-next-back.true
 
-pub overflow_cast-row : goal.overflow_cast-row
-overflow_cast-row c = omega (arith, next-rows _ c.args.g c.requires c.step_back-next.ensures)
+pub offset_bounds-journal-next : goal.offset_bounds-journal-next
+offset_bounds-journal-next c = omega (arith, next-inside c.args.g c.requires c.step_back-next.ensures)
 
-pub offset_bounds-journal-at : goal.offset_bounds-journal-at
-offset_bounds-journal-at c = omega (arith, next-inside _ c.args.g c.requires c.step_back-next.ensures)
+pub slice_bounds-words-count : goal.slice_bounds-words-count
+slice_bounds-words-count c = next-inside c.args.g c.requires c.step_back-next.ensures
 
-pub slice_bounds-minute_of-count : goal.slice_bounds-minute_of-count
-slice_bounds-minute_of-count c = next-inside _ c.args.g c.requires c.step_back-next.ensures
-
-pub slice_bounds-minute_of-start : goal.slice_bounds-minute_of-start
-slice_bounds-minute_of-start c = next-inside _ c.args.g c.requires c.step_back-next.ensures
-
-pub minute_of-minute-requires : goal.minute_of-minute-requires
-minute_of-minute-requires c = rw take_rest (next-head _ c.args.g c.requires c.step_back-next.ensures c.if-next-back.false)
-
-pub offset_bounds-journal-at-2 : goal.offset_bounds-journal-at-2
-offset_bounds-journal-at-2 c = omega (arith, next-inside _ c.args.g c.requires c.step_back-next.ensures)
-
-pub slice_bounds-candidate_of-count : goal.slice_bounds-candidate_of-count
-slice_bounds-candidate_of-count c = next-inside _ c.args.g c.requires c.step_back-next.ensures
-
-pub slice_bounds-candidate_of-start : goal.slice_bounds-candidate_of-start
-slice_bounds-candidate_of-start c = next-inside _ c.args.g c.requires c.step_back-next.ensures
+pub slice_bounds-words-start : goal.slice_bounds-words-start
+slice_bounds-words-start c = next-inside c.args.g c.requires c.step_back-next.ensures
 
 pub candidate_of-candidate-requires : goal.candidate_of-candidate-requires
-candidate_of-candidate-requires c = rw take_rest (next-stands _ c.args.g c.requires c.step_back-next.ensures c.if-next-back.false)
+candidate_of-candidate-requires c = next-stands c.args.g c.requires c.step_back-next.ensures c.if-next-back.false
 
-pub returns-then-candidate-group : goal.returns-then-candidate-group
-returns-then-candidate-group c = other-state _ c.args.g c.requires c.step_back-next.ensures c.if-next-back.false (rw take_rest at c.minute_of-minute.ensures) (rw take_rest at c.candidate_of-candidate.ensures) c.if-g.true c.if-candidate-group.true
+pub overflow_cast-state : goal.overflow_cast-state
+overflow_cast-state c = omega (arith, next-rows c.args.g c.requires c.step_back-next.ensures)
 
-pub returns-then-g : goal.returns-then-g
-returns-then-g c = rw c.update_group.ensures (further-state _ c.args.g c.requires c.step_back-next.ensures c.if-next-back.false (rw take_rest at c.minute_of-minute.ensures) (rw take_rest at c.candidate_of-candidate.ensures) c.if-g.true c.if-candidate-group.false)
+pub minute_of-requires : goal.minute_of-requires
+minute_of-requires c = next-head c.args.g c.requires c.step_back-next.ensures c.if-next-back.false
 
-pub returns : goal.returns
-returns c = rw c.new_group.ensures (first-state _ c.args.g c.requires c.step_back-next.ensures c.if-next-back.false (rw take_rest at c.minute_of-minute.ensures) (rw take_rest at c.candidate_of-candidate.ensures) c.if-g.false)
+pub returns-then-state-group : goal.returns-then-state-group
+returns-then-state-group c = other-state c.args.g c.requires c.step_back-next.ensures c.if-next-back.false c.minute_of.ensures c.candidate_of-candidate.ensures c.in-Some.is c.if-state-group.true
+
+pub returns-else-state-group : goal.returns-else-state-group
+returns-else-state-group c = rw c.update_group-group.ensures (further-state c.args.g c.requires c.step_back-next.ensures c.if-next-back.false c.minute_of.ensures c.candidate_of-candidate.ensures c.in-Some.is c.if-state-group.false)
+
+pub returns-in-None : goal.returns-in-None
+returns-in-None c = rw c.new_group-group.ensures (first-state c.args.g c.requires c.step_back-next.ensures c.if-next-back.false c.minute_of.ensures c.candidate_of-candidate.ensures c.in-None.is)
