@@ -4,7 +4,7 @@ use native.Mathlib.Omega.{arith}
 use mathlib.Core.Path.{◌≡◌, refl, sym, ap, ◌∙◌, subst}
 use mathlib.Core.Bool.{Bool, true, false, not, ◌&&◌, cond, true≢false}
 use mathlib.Core.List.{List}
-use mathlib.Core.Option.{Option, some}
+use mathlib.Core.Option.{Option as Maybe, some}
 use lib.Dec.{T, T_not, ltb, ltb→lt, nltb→le}
 use lib.ListN.{get_or-eq_default}
 use lib.IntN.{ℤ, pos}
@@ -12,6 +12,7 @@ use lib.Ieee.{Float, nan, inf, fin, binary64, lt, le, is_nan, round}
 use lib.Ieee.Scale.{finite}
 use lib.Ieee.Bits.{is_true}
 use lib.Ieee.Fits.{and_l, and_r}
+use Rattle.std.specs.Prelude.{Option, Some, None}
 use Rattle.lists.specs.Loops.{any_below}
 use Rattle.lists.proofs.Loops.{any-stop, any_some}
 use Rattle.binary64.specs.Values.{pzero}
@@ -24,8 +25,6 @@ use Rattle.journal.specs.Row.{Fix, Cell, Row, no_candidate, no_cell, candidate_c
 use Rattle.journal.specs.Ranges.{raw_log_ok, candidate_ok}
 use Rattle.lists.proofs.Lists.{length-number, get_or-number, map-number, number-self}
 use Rattle.journal.proofs.Rules.{candidate-rules}
-use Rattle.transition.specs.declared.step.Step.{Step}
-use Rattle.transition.specs.declared.step.Step.TheVariants.{Possible, Impossible}
 use Rattle.rows.specs.Row.{StepScore, first_best, floor, break_score, floored, best_of, sum_through, is_possible, offer, broken, scored, row}
 use Rattle.decoder.proofs.Bound.{bound, Within, most, sum_bound, minus-inf-within, bound-step, unit}
 
@@ -56,27 +55,27 @@ unfolding scores
 scores-elim r t = any-elim (row_size r) (λ i. finite (score_of r i)) t
 
 -- ---- what goes through a predecessor candidate
-apart : {X : Type 0} (v : Float) → Impossible ≡ Possible v → X
+apart : {X : Type 0} (v : Float) → None ≡ Some v → X
 apart v e = absurd (omega (arith, zero_one))
   where
     zero_one : ◌≡◌ {A = ℕ} 0 1
     zero_one = cc
 
-pub through-inv : (s : Float) (t : Step) (l v : Float) → sum_through s t l ≡ Possible v → (u : Float) × T (finite s) × (t ≡ Possible u) × (v ≡ s ⊕ u ⊕ l)
-through-inv s Impossible l v e = apart v e
-through-inv s (Possible u) l v e = go (finite s) refl e
+pub through-inv : (s : Float) (t : Option Float) (l v : Float) → sum_through s t l ≡ Some v → (u : Float) × T (finite s) × (t ≡ Some u) × (v ≡ s ⊕ u ⊕ l)
+through-inv s None l v e = apart v e
+through-inv s (Some u) l v e = go (finite s) refl e
   where
-    go : (b : Bool) → finite s ≡ b → cond b (Possible (s ⊕ u ⊕ l)) Impossible ≡ Possible v → (w : Float) × T (finite s) × (Possible u ≡ Possible w) × (v ≡ s ⊕ w ⊕ l)
+    go : (b : Bool) → finite s ≡ b → cond b (Some (s ⊕ u ⊕ l)) None ≡ Some v → (w : Float) × T (finite s) × (Some u ≡ Some w) × (v ≡ s ⊕ w ⊕ l)
     go true q k = (u, taken q, refl, cc)
     go false q k = apart v k
 
-pub through-at : (s : Float) (t : Step) (l u : Float) → T (finite s) → t ≡ Possible u → sum_through s t l ≡ Possible (s ⊕ u ⊕ l)
+pub through-at : (s : Float) (t : Option Float) (l u : Float) → T (finite s) → t ≡ Some u → sum_through s t l ≡ Some (s ⊕ u ⊕ l)
 through-at nan t l u f e = absurd f
 through-at (inf b) t l u f e = absurd f
-through-at (fin b m k) t l u f e = ap (λ (x : Step). sum_through (fin b m k) x l) e
+through-at (fin b m k) t l u f e = ap (λ (x : Option Float). sum_through (fin b m k) x l) e
 
 -- ---- the cells of a row
-module _ (step : StepScore) (o : Option Row) (f : Fix) where
+module _ (step : StepScore) (o : Maybe Row) (f : Fix) where
   pub size-row : row_size (row step o f) ≡ candidate_count f
   unfolding row
   size-row = length-number (λ i c. record { candidate = c; parent = (scored step o f i c).0; score = (scored step o f i c).1 }) 0 f.candidates
@@ -110,12 +109,12 @@ module _ (step : StepScore) (p : Row) (f : Fix) where
   unfolding scored
   scored-whole i c e = rw e
 
-  possible-step : (s : Step) → T (is_possible s) → (v : Float) × (s ≡ Possible v)
-  possible-step Impossible t = absurd t
-  possible-step (Possible v) t = (v, refl)
+  possible-step : (s : Option Float) → T (is_possible s) → (v : Float) × (s ≡ Some v)
+  possible-step None t = absurd t
+  possible-step (Some v) t = (v, refl)
 
-  -- an unbroken row has a Possible step
-  pub unbroken : broken step p f ≡ false → (i : ℕ) × (j : ℕ) × (v : Float) × (i < candidate_count f) × (j < row_size p) × (offer step p f i j ≡ Possible v)
+  -- an unbroken row has a possible step
+  pub unbroken : broken step p f ≡ false → (i : ℕ) × (j : ℕ) × (v : Float) × (i < candidate_count f) × (j < row_size p) × (offer step p f i j ≡ Some v)
   unfolding broken
   unbroken e =
       let t : T (any_below (candidate_count f) (λ i. any_below (row_size p) (λ j. is_possible (offer step p f i j)))) = not-false (any_below (candidate_count f) (λ i. any_below (row_size p) (λ j. is_possible (offer step p f i j)))) e in
@@ -128,13 +127,13 @@ module _ (step : StepScore) (p : Row) (f : Fix) where
       not-false true q = tt
       not-false false q = absurd (true≢false q)
 
-  -- and in a broken one no offer is Possible
-  pub no-offer : T (broken step p f) → (i j : ℕ) (v : Float) → i < candidate_count f → j < row_size p → offer step p f i j ≡ Possible v → ⊥
+  -- and in a broken one no offer is possible
+  pub no-offer : T (broken step p f) → (i j : ℕ) (v : Float) → i < candidate_count f → j < row_size p → offer step p f i j ≡ Some v → ⊥
   unfolding broken
   no-offer t i j v h k e =
       T_not (any_below (candidate_count f) (λ i. any_below (row_size p) (λ j. is_possible (offer step p f i j)))) t
       (any-intro (candidate_count f) i (λ i. any_below (row_size p) (λ j. is_possible (offer step p f i j))) h
-      (any-intro (row_size p) j (λ j. is_possible (offer step p f i j)) k (subst (λ (s : Step). T (is_possible s)) (sym e) tt)))
+      (any-intro (row_size p) j (λ j. is_possible (offer step p f i j)) k (subst (λ (s : Option Float). T (is_possible s)) (sym e) tt)))
 
 -- ---- a candidate's logs
 

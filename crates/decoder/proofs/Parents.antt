@@ -11,6 +11,7 @@ use lib.ListN.{length}
 use lib.Ieee.{Float, nan, inf, fin, binary64, le}
 use lib.Ieee.Scale.{finite}
 use lib.Ieee.Bits.{is_true, is_false}
+use Rattle.std.specs.Prelude.{Some}
 use Rattle.binary64.specs.Values.{pzero}
 use Rattle.binary64.specs.Operators.{◌⊕◌}
 use Rattle.binary64.proofs.Order.{taken, missed}
@@ -18,7 +19,6 @@ use Rattle.binary64.proofs.Sum.{add_comm}
 use Rattle.binary64.proofs.Costs.{score-sum, score-inf, score-mono-left}
 use Rattle.journal.specs.Row.{Fix, Row, no_parent, candidate_of, distance_of, cell_of, score_of, scores, predecessor}
 use Rattle.journal.proofs.Lists.{some-none}
-use Rattle.transition.specs.declared.step.Step.TheVariants.{Possible}
 use Rattle.rows.specs.Row.{StepScore, floored, offer}
 use Rattle.decoder.specs.Closing.{follow}
 use Rattle.decoder.proofs.Cells.{through-inv}
@@ -82,7 +82,7 @@ stays (inf true) u l h p q =
 pub mono-three : (x y u l : Float) → T (le y pzero) → T (le u pzero) → T (le l pzero) → T (le x y) → T (le (x ⊕ u ⊕ l) (y ⊕ u ⊕ l))
 mono-three x y u l q p r h = score-mono-left binary64 (x ⊕ u) (y ⊕ u) l (score-sum binary64 y u q p) r (score-mono-left binary64 x y u q p h)
 
-pub offer-inv : (step : StepScore) (p : Row) (f : Fix) (i j : ℕ) (v : Float) → offer step p f i j ≡ Possible v
-    → (u : Float) × T (finite (score_of p j)) × (step (cell_of p j).candidate (candidate_of f i) (distance_of f j i) ≡ Possible u) × (v ≡ score_of p j ⊕ u ⊕ floored (candidate_of f i))
+pub offer-inv : (step : StepScore) (p : Row) (f : Fix) (i j : ℕ) (v : Float) → offer step p f i j ≡ Some v
+    → (u : Float) × T (finite (score_of p j)) × (step (cell_of p j).candidate (candidate_of f i) (distance_of f j i) ≡ Some u) × (v ≡ score_of p j ⊕ u ⊕ floored (candidate_of f i))
 unfolding offer
 offer-inv step p f i j v e = through-inv (score_of p j) (step (cell_of p j).candidate (candidate_of f i) (distance_of f j i)) (floored (candidate_of f i)) v e
