@@ -1,7 +1,5 @@
 -- Entries stored one after the other are a list in a buffer. Assumes nothing.
-use Prim.Native.Nat.{ℕ, zero, suc, ◌+◌, ◌*◌, ◌<◌, ◌≤◌}
-use native.Mathlib.Nat.{mul-suc, mul-le-mul_left}
-use native.Mathlib.Numerals.{add-one}
+use Prim.Native.Nat.{ℕ, zero, suc, ◌<◌, ◌≤◌}
 use native.Mathlib.Omega.{arith}
 use mathlib.Core.Path.{◌≡◌, refl, sym, ap, ◌∙◌}
 use mathlib.Core.List.{List, [], ◌∷◌, ◌++◌, append_assoc}
@@ -26,12 +24,3 @@ module _ {A : Type 0} (d : A) (xs buffer : List A) (g : ℕ → A) where
   entries-listed {n} e m h =
       let l : n ≤ length xs = omega arith in
       entries-are n l m h ∙ rw (e, take-length xs)
-
--- ---- places so many words apart
-
-module _ (place apart k : ℕ) {at : ℕ} (e : at ≡ place + apart * k) where
-  pub next_place : at + apart ≡ place + apart * (k + 1)
-  next_place = rw (add-one, mul-suc) (omega arith)
-
-  pub last-place : {n : ℕ} → k < n → at + apart ≤ place + apart * n
-  last-place l = omega (arith, next_place, ap (λ (m : ℕ). apart * m) (add-one k), mul-le-mul_left apart l)

@@ -14,7 +14,7 @@ use Rattle.journal.specs.Row.{Row, no_row, row_size, latest_minute}
 use Rattle.journal.specs.Record.{length_word, used_word, head_of, cell_words, distances_words, record_length, record_of}
 use Rattle.journal.specs.Journal.{words, predecessor_place, record_on, journal, used, read_journal}
 use Rattle.journal.specs.WellFormed.{RowFits, Obey, WellFormed as Formed}
-use Rattle.journal.specs.inner.Check.{latest_of, well_formed, not_well_formed, survey_of, survey}
+use Rattle.journal.specs.inner.Check.{latest_of, well_formed, survey_of, survey}
 use Rattle.journal.specs.Call.{recounted, striking}
 use Rattle.journal.specs.inner.Strike.{RowsAtLeast, end_of}
 use Rattle.refusals.specs.Refusals.{Checked}

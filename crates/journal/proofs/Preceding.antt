@@ -10,7 +10,7 @@ use lib.ListN.{length, get_or}
 use Rattle.journal.specs.Row.{Row, row_size, scores, predecessor, predecessor_number}
 use Rattle.journal.specs.Journal.{words}
 use Rattle.journal.specs.Call.{preceding_of, preceding}
-use Rattle.journal.specs.inner.Check.{predecessor_at, latest_of, well_formed, not_well_formed, survey}
+use Rattle.journal.specs.inner.Check.{predecessor_at, latest_of, well_formed, survey}
 use Rattle.refusals.specs.declared.Refusal.{Refusal}
 use Rattle.journal.specs.declared.call.PrecedingRow.{PrecedingRow}
 use Rattle.journal.specs.declared.check.Predecessor.{Predecessor}

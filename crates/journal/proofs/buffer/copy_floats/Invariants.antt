@@ -9,7 +9,6 @@ use Rattle.journal.proofs.buffer.copy_floats.Given as goal
 abbrev pub invariant-loop-k : goal.invariant-loop-k
 invariant-loop-k l = (l.k ≤ l.n)
     × (length l.buffer ≡ length l.initial.buffer)
-    × (l.at ≡ l.place + l.apart * l.k)
     × (l.buffer ≡ entries_stored l.k (λ j. float_at l.words (l.place + l.apart * j)) l.initial.buffer)
 
 abbrev pub decreases-loop-k : goal.decreases-loop-k
