@@ -9,13 +9,13 @@ ghost use Rattle.binary64.specs.Ranges.{in_range, in_clear_range, in_open_range}
 pub fn infinity() -> f64
     ensures { result ≡ inf false }
 {
-    1.0 / 0.0
+    f64::INFINITY
 }
 
 pub fn minus_infinity() -> f64
     ensures { result ≡ inf true }
 {
-    -1.0 / 0.0
+    f64::NEG_INFINITY
 }
 
 pub fn is_minus_infinity(x: f64) -> bool
@@ -25,31 +25,25 @@ pub fn is_minus_infinity(x: f64) -> bool
 }
 
 // From low to high.
+#[tactic(auto, unfolding(crate::specs::Ranges::in_range))]
 pub fn in_range(x: f64, low: f64, high: f64) -> bool
     ensures { result ≡ in_range low high x }
 {
-    if low <= x {
-        return x <= high;
-    }
-    false
+    low <= x && x <= high
 }
 
 // From low to high, with the sign bit clear.
+#[tactic(auto, unfolding(crate::specs::Ranges::in_clear_range))]
 pub fn in_clear_range(x: f64, low: f64, high: f64) -> bool
     ensures { result ≡ in_clear_range low high x }
 {
-    if in_range(x, low, high) {
-        return f64::to_bits(x) < 0x8000_0000_0000_0000;
-    }
-    false
+    in_range(x, low, high) && x.is_sign_positive()
 }
 
 // From low up to, and without, high.
+#[tactic(auto, unfolding(crate::specs::Ranges::in_open_range))]
 pub fn in_open_range(x: f64, low: f64, high: f64) -> bool
     ensures { result ≡ in_open_range low high x }
 {
-    if low <= x {
-        return x < high;
-    }
-    false
+    low <= x && x < high
 }

@@ -1,8 +1,8 @@
 -- `binary64::infinity` meets its contract.
 use mathlib.Core.Path.{refl}
-use lib.Ieee.{div, of_bits}
+use lib.Ieee.{of_bits}
 use Rattle.binary64.proofs.infinity.Goals as goal
 
 pub returns : goal.returns
-unfolding div of_bits
+unfolding of_bits
 returns c = refl
