@@ -52,10 +52,6 @@ is_storing Phase.Looking = false
 is_storing Phase.Keeping = true
 is_storing Phase.Clearing = true
 
--- a list without entries has none to check
-abbrev pub first_phase : ℕ → Phase
-first_phase n = cond (eqb n 0) Phase.Over Phase.Checking
-
 -- one thing for each phase
 module _ {ℓ} {A : Type ℓ} where
   unfoldable pub phased : Phase → A → A → A → A → A → A → A
@@ -69,7 +65,7 @@ module _ {ℓ} {A : Type ℓ} where
 -- ---- turns
 
 unfoldable pub stage_begun : ℕ → ℕ → Stage
-stage_begun n m = record { phase = first_phase n; at = 0; total = n; fits = leb n (m / 6); count = n; read = 0; write = 0; decided = 0; changed = false; refusal = None; current = zero_segment; gap = empty_gap; out = zero_segment }
+stage_begun n m = record { phase = cond (eqb n 0) Phase.Over Phase.Checking; at = 0; total = n; fits = leb n (m / 6); count = n; read = 0; write = 0; decided = 0; changed = false; refusal = None; current = zero_segment; gap = empty_gap; out = zero_segment }
 
 -- on to the next after those between; no further than the pass's entries, or than a fourth between
 unfoldable pub sought : Stage → Stage
