@@ -8,7 +8,7 @@ ghost use Rattle.routing.specs.Route.{steps_back, states_back, route_fitted, sta
 ghost use Rattle.routing.specs.inner.Goals.{end_answer};
 
 use crate::route::ListedRoute;
-use crate::search::search_between;
+use crate::search::{search_between, state_count};
 use binary64::infinity;
 use network::compile::CompiledGraph;
 use refusals::Refusal;
@@ -83,14 +83,7 @@ pub fn states_between(
     let mut costs = [infinity(); 4096];
     let mut preds = [0; 4096];
     match search_between(&mut costs, &mut preds, graph, start, goal) {
-        Some(s) => list_back(
-            &preds,
-            2 * start,
-            4 * graph.lengths.len(),
-            s,
-            costs[s],
-            states,
-        ),
+        Some(s) => list_back(&preds, 2 * start, state_count(graph), s, costs[s], states),
         None => Ok(None),
     }
 }

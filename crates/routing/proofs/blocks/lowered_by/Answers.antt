@@ -1,20 +1,21 @@
 -- `routing::blocks::lowered_by` meets its contract.
-use borrow.Author.Tests.{lt-ltb, le-ltb}
+use Rattle.std.proofs.Common.{◌∙◌, sym}
 use Rattle.routing.specs.inner.Blocks.{lowered}
+use Rattle.routing.proofs.blocks.lowered_by.Goals.{then-cost-l, else-cost-l+then-cost-l-2, else-cost-l+else-cost-l-2}
 use Rattle.routing.proofs.blocks.lowered_by.Goals as goal
 
-pub returns-then-cost-l : goal.returns-then-cost-l
+pub returns-then-i-l : goal.returns-then-i-l
 unfolding lowered
-returns-then-cost-l c = rw c.if-cost-l.true
+returns-then-i-l c = elim c.if-cost-l.branch [
+  | then-cost-l w ↦ rw w.if-cost-l.true
+  | else-cost-l+then-cost-l-2 w ↦ rw (w.if-cost-l.false, w.if-cost-l-2.true, sym w.value-is ∙ c.if-i-l.true)
+  | else-cost-l+else-cost-l-2 w ↦ rw (w.if-cost-l.false, w.if-cost-l-2.false) (cc)
+]
 
-pub returns-then-comes_before : goal.returns-then-comes_before
+pub returns-else-i-l : goal.returns-else-i-l
 unfolding lowered
-returns-then-comes_before c = rw (c.if-cost-l.false, c.if-cost-l-2.true, lt-ltb _ _ c.if-comes_before.true)
-
-pub returns-else-comes_before : goal.returns-else-comes_before
-unfolding lowered
-returns-else-comes_before c = rw (c.if-cost-l.false, c.if-cost-l-2.true, le-ltb _ _ c.if-comes_before.false)
-
-pub returns-else-cost-l-2 : goal.returns-else-cost-l-2
-unfolding lowered
-returns-else-cost-l-2 c = rw (c.if-cost-l.false, c.if-cost-l-2.false)
+returns-else-i-l c = elim c.if-cost-l.branch [
+  | then-cost-l w ↦ rw w.if-cost-l.true (cc)
+  | else-cost-l+then-cost-l-2 w ↦ rw (w.if-cost-l.false, w.if-cost-l-2.true, sym w.value-is ∙ c.if-i-l.false)
+  | else-cost-l+else-cost-l-2 w ↦ rw (w.if-cost-l.false, w.if-cost-l-2.false)
+]

@@ -6,6 +6,6 @@ pub returns-then-marks-i : goal.returns-then-marks-i
 unfolding key_of state_leader
 returns-then-marks-i c = rw (c.if-marks-i.true, c.infinity.ensures)
 
-pub returns : goal.returns
+pub returns-else-marks-i : goal.returns-else-marks-i
 unfolding key_of state_leader
-returns c = rw c.if-marks-i.false
+returns-else-marks-i c = rw c.if-marks-i.false

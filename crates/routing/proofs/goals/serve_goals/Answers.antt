@@ -20,11 +20,11 @@ next_state-picked-requires c = c.loop-waiting.invariant.0
 
 pub offset_bounds-costs-s : goal.offset_bounds-costs-s
 unfolding next
-offset_bounds-costs-s c = omega (arith, below (graph_in c.args.lengths.now c.args.heads.now c.args.links.now) 0 (search_of c.loop-waiting.costs c.loop-waiting.preds c.loop-waiting.marks) c.in-At.s (blocks-fit c.loop-waiting.invariant.0) (sym c.next_state-picked.ensures ∙ c.in-At.is), c.requires.sound_graph.few)
+offset_bounds-costs-s c = omega (arith, below (graph_in c.args.graph.now) 0 (search_of c.loop-waiting.costs c.loop-waiting.preds c.loop-waiting.marks) c.in-Some.s (blocks-fit c.loop-waiting.invariant.0) (sym c.next_state-picked.ensures ∙ c.in-Some.is), c.requires.sound_graph.few)
 
 pub bounds-costs-s : goal.bounds-costs-s
 unfolding next
-bounds-costs-s c = omega (arith, below (graph_in c.args.lengths.now c.args.heads.now c.args.links.now) 0 (search_of c.loop-waiting.costs c.loop-waiting.preds c.loop-waiting.marks) c.in-At.s (blocks-fit c.loop-waiting.invariant.0) (sym c.next_state-picked.ensures ∙ c.in-At.is), c.requires.sound_graph.few)
+bounds-costs-s c = omega (arith, below (graph_in c.args.graph.now) 0 (search_of c.loop-waiting.costs c.loop-waiting.preds c.loop-waiting.marks) c.in-Some.s (blocks-fit c.loop-waiting.invariant.0) (sym c.next_state-picked.ensures ∙ c.in-Some.is), c.requires.sound_graph.few)
 
 pub note_goals-waiting-requires : goal.note_goals-waiting-requires
 note_goals-waiting-requires c = omega (arith, c.loop-waiting.invariant.1, c.requires.goals_in_bounds)
@@ -34,30 +34,30 @@ unfolding next
 settle-requires c =
     record {
       sound_graph = c.requires.sound_graph;
-      s_bound = below (graph_in c.args.lengths.now c.args.heads.now c.args.links.now) 0 (search_of c.loop-waiting.costs c.loop-waiting.preds c.loop-waiting.marks) c.in-At.s (blocks-fit c.loop-waiting.invariant.0) (sym c.next_state-picked.ensures ∙ c.in-At.is);
+      s_bound = below (graph_in c.args.graph.now) 0 (search_of c.loop-waiting.costs c.loop-waiting.preds c.loop-waiting.marks) c.in-Some.s (blocks-fit c.loop-waiting.invariant.0) (sym c.next_state-picked.ensures ∙ c.in-Some.is);
       blocks = c.loop-waiting.invariant.0;
     }
 
 pub loop-waiting-smaller : goal.loop-waiting-smaller
 unfolding next
-loop-waiting-smaller c = turn-less _ 0 _ _ (blocks-fit c.loop-waiting.invariant.0) (sym c.next_state-picked.ensures ∙ c.in-At.is) c.settle.ensures.marks_after
+loop-waiting-smaller c = turn-less _ 0 _ _ (blocks-fit c.loop-waiting.invariant.0) (sym c.next_state-picked.ensures ∙ c.in-Some.is) c.settle.ensures.marks_after
 
 pub loop-waiting-preserved : goal.loop-waiting-preserved
 unfolding next
 loop-waiting-preserved c = (
   c.settle.ensures.blocks_after,
   omega (arith, c.loop-waiting.invariant.1),
-  λ k h. rw (c.note_goals-waiting.ensures.each k h) (served-on _ _ _ _ (c.loop-waiting.invariant.2 k h) _ (blocks-fit c.loop-waiting.invariant.0) (sym c.next_state-picked.ensures ∙ c.in-At.is) c.settle.ensures.marks_after),
+  λ k h. rw (c.note_goals-waiting.ensures.each k h) (served-on _ _ _ _ (c.loop-waiting.invariant.2 k h) _ (blocks-fit c.loop-waiting.invariant.0) (sym c.next_state-picked.ensures ∙ c.in-Some.is) c.settle.ensures.marks_after),
   c.note_goals-waiting.ensures.reached,
   c.note_goals-waiting.ensures.past ∙ c.loop-waiting.invariant.4,
 )
 
-pub shape_of-found-in-Nothing : goal.shape_of-found-in-Nothing
-shape_of-found-in-Nothing c = c.loop-waiting.invariant.1
+pub shape_of-found-in_default : goal.shape_of-found-in_default
+shape_of-found-in_default c = c.loop-waiting.invariant.1
 
-pub returns-in-Nothing : goal.returns-in-Nothing
+pub returns-in_default : goal.returns-in_default
 unfolding next
-returns-in-Nothing c = costs-all _ c.args.goals.now c.args.found.now c.loop-waiting.found (omega (arith, c.loop-waiting.invariant.1, c.requires.goals_in_bounds)) (λ k h. served-none _ _ _ _ (c.loop-waiting.invariant.2 k h) (sym c.next_state-picked.ensures ∙ c.in-Nothing.is)) c.loop-waiting.invariant.4
+returns-in_default c = costs-all _ c.args.goals.now c.args.found.now c.loop-waiting.found (omega (arith, c.loop-waiting.invariant.1, c.requires.goals_in_bounds)) (λ k h. served-none _ _ _ _ (c.loop-waiting.invariant.2 k h) (sym c.next_state-picked.ensures ∙ c.in_default.is)) c.loop-waiting.invariant.4
 
 pub shape_of-found : goal.shape_of-found
 shape_of-found c = c.loop-waiting.invariant.1

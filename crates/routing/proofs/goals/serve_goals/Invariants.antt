@@ -12,14 +12,14 @@ use Rattle.routing.proofs.Served.{Served}
 use Rattle.routing.proofs.goals.serve_goals.Given as goal
 
 abbrev pub invariant-loop-waiting : goal.invariant-loop-waiting
-invariant-loop-waiting l = Blocks (4 * length l.lengths) l.costs l.marks l.leaders l.keys
+invariant-loop-waiting l = Blocks (4 * length l.graph.lengths) l.costs l.marks l.leaders l.keys
     × (length l.found ≡ length l.initial.found)
     × ((k : ℕ) → k < length l.goals →
-    Served (graph_in l.lengths l.heads l.links) (get_or l.goals k 0)
-    (search_in (graph_in l.lengths l.heads l.links) (get_or l.goals k 0) (unsettled l.initial.marks (4 * length l.lengths)) (search_of l.initial.costs l.initial.preds l.initial.marks))
+    Served (graph_in l.graph) (get_or l.goals k 0)
+    (search_in (graph_in l.graph) (get_or l.goals k 0) (unsettled l.initial.marks (4 * length l.graph.lengths)) (search_of l.initial.costs l.initial.preds l.initial.marks))
     (search_of l.costs l.preds l.marks) (get_or l.found k nan))
     × (l.waiting ≡ 0 → (k : ℕ) → k < length l.goals → lt (get_or l.found k nan) (inf false) ≡ true)
     × (drop (length l.goals) l.found ≡ drop (length l.goals) l.initial.found)
 
 abbrev pub decreases-loop-waiting : goal.decreases-loop-waiting
-decreases-loop-waiting l = unsettled l.marks (4 * length l.lengths)
+decreases-loop-waiting l = unsettled l.marks (4 * length l.graph.lengths)

@@ -15,14 +15,14 @@ returns-then-e-ge8192 c =
       blocks_after = c.loop-i.invariant.1;
     }
 
-pub offset_bounds-links-e : goal.offset_bounds-links-e
-offset_bounds-links-e c = omega arith
+pub offset_bounds-graph-inside-e : goal.offset_bounds-graph-inside-e
+offset_bounds-graph-inside-e c = omega arith
 
-pub bounds-links-e : goal.bounds-links-e
-bounds-links-e c = omega arith
+pub bounds-graph-inside-e : goal.bounds-graph-inside-e
+bounds-graph-inside-e c = omega arith
 
-pub overflow_mul-elements : goal.overflow_mul-elements
-overflow_mul-elements c = omega (arith, c.loop-i.invariant.1.few)
+pub state_count-requires : goal.state_count-requires
+state_count-requires c = omega (arith, c.loop-i.invariant.1.few)
 
 pub overflow_mul-w : goal.overflow_mul-w
 overflow_mul-w c = omega arith
@@ -35,7 +35,7 @@ lower_state-requires c =
     record {
       from_bound = (
         omega (arith, c.requires.s_bound, c.loop-i.invariant.1.few),
-        rw c.wide-w.ensures.0 (left-lands _ _ _ _ _ _ _ _ c.loop-i.invariant.2 c.if-e-ge8192.false (8192 - (c.loop-i.i + 1)) (omega (arith, c.loop-i-test.true))),
+        (left-lands _ _ _ _ _ _ _ _ c.loop-i.invariant.2 c.if-e-ge8192.false (8192 - (c.loop-i.i + 1)) (omega (arith, c.loop-i-test.true))),
       );
       blocks = c.loop-i.invariant.1;
     }
@@ -51,7 +51,7 @@ unfolding of_bits
 loop-i-preserved c = (
   omega (arith, c.loop-i-test.true),
   c.lower_state.ensures.blocks_2,
-  rw c.wide-w.ensures.0 (left-on _ _ _ _ _ _ _ _ c.loop-i.invariant.2 c.if-e-ge8192.false _ (omega (arith, c.loop-i-test.true)) (rw c.wide-w.ensures.0 at c.lower_state.ensures.preds_after)),
+  (left-on _ _ _ _ _ _ _ _ c.loop-i.invariant.2 c.if-e-ge8192.false _ (omega (arith, c.loop-i-test.true)) c.lower_state.ensures.preds_after),
 )
 
 pub returns : goal.returns
