@@ -8,8 +8,7 @@ ghost use Rattle.routing.specs.Route.{steps_back, states_back, route_fitted, sta
 ghost use Rattle.routing.specs.inner.Goals.{end_answer};
 
 use crate::route::ListedRoute;
-use crate::search::{search_between, state_count};
-use binary64::infinity;
+use crate::search::Search;
 use network::compile::CompiledGraph;
 use refusals::Refusal;
 
@@ -80,10 +79,17 @@ pub fn states_between(
     ensures states_after { let g = graph_in graph.now in
         states.new ≡ states_stored result (states_of_end (2 * start) (4 * element_count g) (searched g start goal)) states.old }
 {
-    let mut costs = [infinity(); 4096];
-    let mut preds = [0; 4096];
-    match search_between(&mut costs, &mut preds, graph, start, goal) {
-        Some(s) => list_back(&preds, 2 * start, state_count(graph), s, costs[s], states),
+    let mut search = Search::new();
+    search.begin(start);
+    match search.find(graph, goal) {
+        Some(s) => list_back(
+            &search.preds,
+            2 * start,
+            4 * graph.lengths.len(),
+            s,
+            search.costs[s],
+            states,
+        ),
         None => Ok(None),
     }
 }

@@ -1,6 +1,5 @@
 -- The leader of each group of 16 states and of each block of 16 groups, kept beside the tables of a search with what it costs: a pick looks at the
--- blocks' leaders and not at every state, and two leaders are compared by the numbers that stand beside them. What is picked is `pick_of` of
--- specs/Search.antt still.
+-- blocks' leaders and not at every state, and two leaders are compared by their costs alone. What is picked is `pick_of` of specs/Search.antt still.
 use Rattle.std.specs.Prelude.{ℕ, ◌+◌, ◌*◌, ◌<◌, ◌≤◌, Bool, false, cond, not, ◌||◌, ◌&&◌, List, ◌≡◌, T, ltb, length, get_or, replicate, Float}
 use Rattle.std.specs.Float.{nan, inf}
 use Rattle.std.specs.Float.Ieee.{lt, le, is_nan}
@@ -14,6 +13,10 @@ key_of costs marks i = cond (get_or marks i false) (inf false) (get_or costs i n
 
 abbrev pub leader_of : ℕ → Float → Leader
 leader_of state key = record { state = state; key = key }
+
+-- where there is none to pick
+abbrev pub no_leader : Leader
+no_leader = leader_of 0 (inf false)
 
 -- of the states from `low` to before `end` the leader has the least key, and is the first that has it; where that is infinity, none of them can be
 -- picked, and the leader may be any
@@ -45,32 +48,23 @@ lowered l i cost = cond (lt cost l.key || (le cost l.key && ltb i l.state)) (lea
 -- ---- the leaders of all groups and blocks
 
 -- entry b, below 16, is of block b, and entry 16 + g of group g
-unfoldable pub leader_at : List ℕ → List Float → ℕ → Leader
-leader_at leaders keys at = leader_of (get_or leaders at 0) (get_or keys at nan)
+unfoldable pub leader_at : List Leader → ℕ → Leader
+leader_at leaders at = get_or leaders at (leader_of 0 nan)
 
 -- before a search no state can be picked
-unfoldable pub no_leaders : List ℕ
-no_leaders = replicate 272 0
+unfoldable pub no_leaders : List Leader
+no_leaders = replicate 272 no_leader
 
-unfoldable pub no_keys : List Float
-no_keys = replicate 272 (inf false)
+abbrev pub GroupsLed : (ℕ → Float) → List Leader → Type 0
+GroupsLed key leaders = (g : ℕ) → g < 256 → Least key (16 * g) (16 * g + 16) (leader_at leaders (16 + g))
 
-abbrev pub GroupsLed : (ℕ → Float) → List ℕ → List Float → Type 0
-GroupsLed key leaders keys = (g : ℕ) → g < 256 → Least key (16 * g) (16 * g + 16) (leader_at leaders keys (16 + g))
-
-abbrev pub BlocksLed : (ℕ → Float) → List ℕ → List Float → Type 0
-BlocksLed key leaders keys = (b : ℕ) → b < 16 → Least key (256 * b) (256 * b + 256) (leader_at leaders keys b)
+abbrev pub BlocksLed : (ℕ → Float) → List Leader → Type 0
+BlocksLed key leaders = (b : ℕ) → b < 16 → Least key (256 * b) (256 * b + 256) (leader_at leaders b)
 
 -- tables of 4,096 states, in which no cost is NaN, with the leaders of all groups and blocks
-pub record Led (costs : List Float) (marks : List Bool) (leaders : List ℕ) (keys : List Float) : Type 0 where
+pub record Led (costs : List Float) (marks : List Bool) (leaders : List Leader) : Type 0 where
   pub tables : (4096 ≤ length costs) × (4096 ≤ length marks)
-  pub entries : (272 ≤ length leaders) × (272 ≤ length keys)
+  pub entries : 272 ≤ length leaders
   pub numbers : (i : ℕ) → i < 4096 → T (not (is_nan (get_or costs i nan)))
-  pub groups : GroupsLed (key_of costs marks) leaders keys
-  pub blocks : BlocksLed (key_of costs marks) leaders keys
-
--- and none of the states from n on is reached
-pub record Blocks (n : ℕ) (costs : List Float) (marks : List Bool) (leaders : List ℕ) (keys : List Float) : Type 0 where
-  pub few : n ≤ 4096
-  pub rest : (i : ℕ) → n ≤ i → i < 4096 → get_or costs i nan ≡ inf false
-  pub all : Led costs marks leaders keys
+  pub groups : GroupsLed (key_of costs marks) leaders
+  pub blocks : BlocksLed (key_of costs marks) leaders

@@ -1,5 +1,7 @@
 -- What bounds the numbers of a search.
-use Rattle.std.specs.Prelude.{ℕ, zero, suc, ◌+◌, ◌<◌, Bool, false, cond, List, Option, Some, None, get_or}
+use Rattle.std.specs.Prelude.{ℕ, zero, suc, ◌+◌, ◌<◌, ◌≤◌, ◌≡◌, Bool, false, cond, List, Option, Some, None, length, get_or}
+use Rattle.std.specs.Float.{nan, inf}
+use Rattle.routing.specs.Search.{Search}
 
 -- a pick is a state below n
 abbrev pub Within : ℕ → Option ℕ → Type 0
@@ -10,3 +12,9 @@ Within n None = Unit {0}
 unfoldable pub unsettled : List Bool → ℕ → ℕ
 unsettled marks zero = 0
 unsettled marks (suc n) = cond (get_or marks n false) 0 1 + unsettled marks n
+
+-- tables of 4,096 states, of which none from n on is reached
+pub record ReachedBelow (n : ℕ) (q : Search) : Type 0 where
+  pub few : n ≤ 4096
+  pub marks : 4096 ≤ length q.marks
+  pub rest : (i : ℕ) → n ≤ i → i < 4096 → get_or q.tables.costs i nan ≡ inf false
