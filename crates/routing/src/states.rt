@@ -23,7 +23,7 @@ fn steps_back(preds: &[u16; 4096], start: usize, most: usize, s: usize) -> usize
         if at == start {
             return n + 1;
         }
-        at = usize::from(preds[at]);
+        at = preds[at] as usize;
     }
     most
 }
@@ -39,8 +39,8 @@ fn write_back(preds: &[u16; 4096], s: usize, n: usize, states: &mut [u32])
     let mut i = n;
     while 0 < i {
         i -= 1;
-        states[i] = u32::from(at);
-        at = preds[usize::from(at)];
+        states[i] = at as u32;
+        at = preds[at as usize];
     }
 }
 

@@ -1,48 +1,42 @@
 -- `routing::states::states_between` meets its contract.
-use mathlib.Core.Path.{refl}
+use mathlib.Core.Path.{refl, sym, ap, ◌∙◌}
 use native.Mathlib.Omega.{arith}
+use Rattle.network.specs.inner.Compiled.{graph_in}
+use Rattle.routing.specs.Search.{Search}
 use Rattle.routing.specs.Route.{states_stored}
-use Rattle.routing.proofs.Routes.{found-listing, found-stored, found_below, found-states-below, none-listing}
+use Rattle.routing.proofs.Reached.{reached-begun}
+use Rattle.routing.proofs.Routes.{is-searched, found-listing, found-stored, found_below, found-states-below, none-listing}
 use Rattle.routing.proofs.states.states_between.Goals as goal
 
-pub search_between-end-requires : goal.search_between-end-requires
-search_between-end-requires c =
-    record {
-      sound_graph = c.requires.sound_graph;
-      start_bound = c.requires.start_bound;
-      costs_value = (c.no_costs-costs.ensures, c.no_preds-preds.ensures);
-    }
+pub find-requires-clause-reached : goal.find-requires-clause-reached
+find-requires-clause-reached c = rw c.begin.ensures (reached-begun (graph_in c.args.graph.now) c.requires.sound_graph _ c.requires.start_bound)
 
-pub overflow_mul-start : goal.overflow_mul-start
-overflow_mul-start c = omega (arith, c.requires.start_bound, c.requires.sound_graph.few)
+pub bounds-search-inside-s : goal.bounds-search-inside-s
+bounds-search-inside-s c = found_below _ c.args.start c.args.goal (is-searched _ _ c.args.goal c.begin.ensures c.find.ensures) _ c.in-Some.is c.requires.sound_graph
 
-pub overflow_mul-lengths : goal.overflow_mul-lengths
-overflow_mul-lengths c = omega (arith, c.requires.sound_graph.few)
+pub offset_bounds-search-inside-s : goal.offset_bounds-search-inside-s
+offset_bounds-search-inside-s c = omega (arith, found_below _ c.args.start c.args.goal (is-searched _ _ c.args.goal c.begin.ensures c.find.ensures) _ c.in-Some.is c.requires.sound_graph)
 
-pub offset_bounds-costs-s : goal.offset_bounds-costs-s
-offset_bounds-costs-s c = omega (arith, found_below _ c.args.start c.args.goal c.search_between-end.ensures.value c.search_between-end.ensures.preds_after _ c.in-At.is c.requires.sound_graph)
+pub list_back-requires-clause-s_bound : goal.list_back-requires-clause-s_bound
+list_back-requires-clause-s_bound c = found_below _ c.args.start c.args.goal (is-searched _ _ c.args.goal c.begin.ensures c.find.ensures) _ c.in-Some.is c.requires.sound_graph
 
-pub bounds-costs-s : goal.bounds-costs-s
-bounds-costs-s c = found_below _ c.args.start c.args.goal c.search_between-end.ensures.value c.search_between-end.ensures.preds_after _ c.in-At.is c.requires.sound_graph
+pub list_back-requires-clause-by_index : goal.list_back-requires-clause-by_index
+list_back-requires-clause-by_index c = λ k.
+    rw (ap (λ (q : Search). q.tables.preds) c.search.view_is)
+    (found-states-below _ c.args.start c.args.goal (is-searched _ _ c.args.goal c.begin.ensures c.find.ensures) c.requires.sound_graph k)
 
-pub list_back-requires : goal.list_back-requires
-list_back-requires c =
-    record {
-      s_bound = found_below _ c.args.start c.args.goal c.search_between-end.ensures.value c.search_between-end.ensures.preds_after _ c.in-At.is c.requires.sound_graph;
-      by_index = λ k. found-states-below _ c.args.start c.args.goal c.search_between-end.ensures.value c.search_between-end.ensures.preds_after c.requires.sound_graph k;
-    }
+pub returns-in-Some-clause-value : goal.returns-in-Some-clause-value
+returns-in-Some-clause-value c =
+    found-listing _ c.args.start c.args.goal (rw (← c.search.view_is) at (is-searched _ _ c.args.goal c.begin.ensures c.find.ensures)) _ c.in-Some.is _ _
+    (rw (ap length c.graph.view_is) at c.list_back.ensures.value)
 
-pub returns-in-At : goal.returns-in-At
-returns-in-At c =
-    record {
-      value = found-listing _ c.args.start c.args.goal c.search_between-end.ensures.value c.search_between-end.ensures.preds_after _ c.in-At.is _ _ c.list_back.ensures.value;
-      states_after = found-stored _ c.args.start c.args.goal c.search_between-end.ensures.value c.search_between-end.ensures.preds_after _ c.in-At.is 0 _ _ c.list_back.ensures.states_after;
-    }
+pub returns-in-Some-clause-states_after : goal.returns-in-Some-clause-states_after
+returns-in-Some-clause-states_after c =
+    found-stored _ c.args.start c.args.goal (rw (← c.search.view_is) at (is-searched _ _ c.args.goal c.begin.ensures c.find.ensures)) _ c.in-Some.is 0 _ _ c.list_back.ensures.states_after
 
-pub returns-in-Nothing : goal.returns-in-Nothing
+pub returns-in-None-clause-value : goal.returns-in-None-clause-value
+returns-in-None-clause-value c = none-listing _ c.args.start c.args.goal (is-searched _ _ c.args.goal c.begin.ensures c.find.ensures) c.in-None.is _ _
+
+pub returns-in-None-clause-states_after : goal.returns-in-None-clause-states_after
 unfolding states_stored
-returns-in-Nothing c =
-    record {
-      value = none-listing _ c.args.start c.args.goal c.search_between-end.ensures.value c.search_between-end.ensures.preds_after c.in-Nothing.is _ _;
-      states_after = refl;
-    }
+returns-in-None-clause-states_after c = refl

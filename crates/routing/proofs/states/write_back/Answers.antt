@@ -19,17 +19,11 @@ overflow_sub-i c = omega arith
 pub bounds-states-i : goal.bounds-states-i
 bounds-states-i c = omega arith
 
-pub offset_bounds-preds-wide : goal.offset_bounds-preds-wide
-offset_bounds-preds-wide c = omega (arith, c.wide.ensures.0, c.loop-i.invariant.1, c.requires.s_bound)
-
-pub bounds-preds-wide : goal.bounds-preds-wide
-bounds-preds-wide c = rw c.wide.ensures.0 c.loop-i.invariant.1
-
 pub loop-i-smaller : goal.loop-i-smaller
 loop-i-smaller c = omega arith
 
 pub loop-i-preserved : goal.loop-i-preserved
-loop-i-preserved c = (omega arith, rw c.state_number-at.ensures (c.requires.by_index _), simp length-set c.loop-i.invariant.2, rw (c.state_number-at.ensures, c.wide.ensures.0) (write-turn _ _ _ _ c.loop-i.invariant.3 c.loop-i-test.true (omega arith)))
+loop-i-preserved c = (omega arith, c.requires.by_index _, simp length-set c.loop-i.invariant.2, write-turn _ _ _ _ c.loop-i.invariant.3 c.loop-i-test.true (omega arith))
 
 pub shape_of-states : goal.shape_of-states
 shape_of-states c = c.loop-i.invariant.2
