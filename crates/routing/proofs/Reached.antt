@@ -48,13 +48,13 @@ module _ (g : Graph) (sound : SoundGraph g) where
   unfolding settled relax relax_internal
   reached-settled s q e h R =
       rw e (
-        let inner = rest-lowered (4 * element_count g) s _ _ q.tables (opposite-lands _ _ h) R.rest in
-        record {
-          few = R.few;
-          marks = simp length-set R.marks;
-          rest = rest-cond (4 * element_count g) (eqb (s % 2) 0) _ _
-              (rest-external (4 * element_count g) s _ (g.links (s / 2)) _ (λ u m. omega (arith, sound.lands (s / 2) u m)) inner) inner;
-        })
+      let inner = rest-lowered (4 * element_count g) s _ _ q.tables (opposite-lands _ _ h) R.rest in
+      record {
+        few = R.few;
+        marks = simp length-set R.marks;
+        rest = rest-cond (4 * element_count g) (eqb (s % 2) 0) _ _
+            (rest-external (4 * element_count g) s _ (g.links (s / 2)) _ (λ u m. omega (arith, sound.lands (s / 2) u m)) inner) inner;
+      })
 
 -- there is a mark for each of the states
 pub reached-fit : {n : ℕ} {q : Search} → ReachedBelow n q → n ≤ length q.marks

@@ -39,8 +39,7 @@ pub loop-waiting-preserved : goal.loop-waiting-preserved
 unfolding next
 loop-waiting-preserved c =
     let picked = sym (c.next_state.ensures _ c.loop-waiting.invariant.0) ∙ c.in-Some.is in
-    let fits = reached-fit c.loop-waiting.invariant.0 in
-    (
+    let fits = reached-fit c.loop-waiting.invariant.0 in (
       reached-settled (graph_in c.args.graph.now) c.requires.sound_graph _ _ c.settle.ensures (below (graph_in c.args.graph.now) 0 c.loop-waiting.search _ fits picked) c.loop-waiting.invariant.0,
       omega (arith, c.loop-waiting.invariant.1),
       λ k h. rw (c.note_goals-waiting.ensures.each k h, ap (λ (q : Search). q.tables.costs) c.search.view_is) (served-on _ _ _ _ (c.loop-waiting.invariant.2 k h) _ fits picked c.settle.ensures),

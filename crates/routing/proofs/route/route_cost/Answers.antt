@@ -1,21 +1,23 @@
 -- `routing::route::route_cost` meets its contract.
-use mathlib.Core.Path.{sym, ap₂, ◌∙◌}
-use Rattle.network.specs.Graph.{node}
-use Rattle.routing.proofs.Routes.{known-node, node-between, route-unknown-start, route-unknown-goal}
+use mathlib.Core.Path.{sym, ◌∙◌}
+use Rattle.routing.proofs.Routes.{some-told, none-told, known-node, node-between, route-unknown-start, route-unknown-goal}
 use Rattle.routing.proofs.route.route_cost.Goals as goal
 
-pub distance_between-requires : goal.distance_between-requires
-distance_between-requires c =
-    record {
-      sound_graph = c.requires;
-      start_bound = rw (c.node_of-start.ensures ∙ ap₂ node c.wide.ensures.0 c.wide-then-known_side-2.ensures.0) (known-node _ _ _ (sym c.known_side.ensures ∙ c.if-known_side.true));
-    }
+pub returns-in_err-from : goal.returns-in_err-from
+returns-in_err-from c = rw c.from_residual.ensures (route-unknown-start _ _ _ _ _ (none-told _ _ (sym c.known_node.ensures ∙ c.in_err-from.was)))
 
-pub returns-then-known_side-2 : goal.returns-then-known_side-2
-returns-then-known_side-2 c = c.distance_between.ensures ∙ node-between _ _ _ _ _ (sym c.known_side.ensures ∙ c.if-known_side.true) (sym c.known_side-then-known_side.ensures ∙ c.if-known_side-2.true) (c.node_of-start.ensures ∙ ap₂ node c.wide.ensures.0 c.wide-then-known_side-2.ensures.0) (c.node_of-goal.ensures ∙ ap₂ node c.wide-then-known_side-2-2.ensures.0 c.wide-then-known_side-2-3.ensures.0)
+pub returns-in_err-to : goal.returns-in_err-to
+returns-in_err-to c =
+    rw c.from_residual-in_err-to.ensures
+    (route-unknown-goal _ _ _ _ _ (some-told _ _ (sym c.known_node.ensures ∙ c.in_ok-from.was)).0 (none-told _ _ (sym c.known_node-2.ensures ∙ c.in_err-to.was)))
 
-pub returns-else-known_side-2 : goal.returns-else-known_side-2
-returns-else-known_side-2 c = route-unknown-goal _ _ _ _ _ (sym c.known_side.ensures ∙ c.if-known_side.true) (sym c.known_side-then-known_side.ensures ∙ c.if-known_side-2.false)
+pub distance_between-requires-clause-start_bound : goal.distance_between-requires-clause-start_bound
+distance_between-requires-clause-start_bound c =
+    let from = some-told _ _ (sym c.known_node.ensures ∙ c.in_ok-from.was) in
+    rw from.1 (known-node _ _ _ from.0)
 
-pub returns-else-known_side : goal.returns-else-known_side
-returns-else-known_side c = route-unknown-start _ _ _ _ _ (sym c.known_side.ensures ∙ c.if-known_side.false)
+pub returns : goal.returns
+returns c =
+    let from = some-told _ _ (sym c.known_node.ensures ∙ c.in_ok-from.was) in
+    let to = some-told _ _ (sym c.known_node-2.ensures ∙ c.in_ok-to.was) in
+    c.distance_between.ensures ∙ node-between _ _ _ _ _ from.0 to.0 from.1 to.1

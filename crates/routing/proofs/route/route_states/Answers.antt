@@ -1,36 +1,37 @@
 -- `routing::route::route_states` meets its contract.
-use mathlib.Core.Path.{refl, sym, ap₂, ◌∙◌}
-use Rattle.network.specs.Graph.{node}
+use mathlib.Core.Path.{refl, sym, ◌∙◌}
 use Rattle.routing.specs.Route.{states_stored}
-use Rattle.routing.proofs.Routes.{known-node, listing-between, stored-between, unlisted-start, unlisted-goal}
+use Rattle.routing.proofs.Routes.{some-told, none-told, known-node, listing-between, stored-between, unlisted-start, unlisted-goal}
 use Rattle.routing.proofs.route.route_states.Goals as goal
 
-pub states_between-requires : goal.states_between-requires
-states_between-requires c =
-    record {
-      sound_graph = c.requires;
-      start_bound = rw (c.node_of-start.ensures ∙ ap₂ node c.wide.ensures.0 c.wide-then-known_side-2.ensures.0) (known-node _ _ _ (sym c.known_side.ensures ∙ c.if-known_side.true));
-    }
+pub states_between-requires-clause-start_bound : goal.states_between-requires-clause-start_bound
+states_between-requires-clause-start_bound c =
+    let from = some-told _ _ (sym c.known_node.ensures ∙ c.in-Some-Some.is-0) in
+    rw from.1 (known-node _ _ _ from.0)
 
-pub returns-then-known_side-2 : goal.returns-then-known_side-2
-returns-then-known_side-2 c =
-    record {
-      value = listing-between _ _ _ _ _ (sym c.known_side.ensures ∙ c.if-known_side.true) (sym c.known_side-then-known_side.ensures ∙ c.if-known_side-2.true) (c.node_of-start.ensures ∙ ap₂ node c.wide.ensures.0 c.wide-then-known_side-2.ensures.0) (c.node_of-goal.ensures ∙ ap₂ node c.wide-then-known_side-2-2.ensures.0 c.wide-then-known_side-2-3.ensures.0) _ _ c.states_between.ensures.value;
-      states_after = stored-between _ _ _ _ _ (sym c.known_side.ensures ∙ c.if-known_side.true) (sym c.known_side-then-known_side.ensures ∙ c.if-known_side-2.true) (c.node_of-start.ensures ∙ ap₂ node c.wide.ensures.0 c.wide-then-known_side-2.ensures.0) (c.node_of-goal.ensures ∙ ap₂ node c.wide-then-known_side-2-2.ensures.0 c.wide-then-known_side-2-3.ensures.0) 0 _ _ c.states_between.ensures.states_after;
-    }
+pub returns-in-Some-Some-clause-value : goal.returns-in-Some-Some-clause-value
+returns-in-Some-Some-clause-value c =
+    let from = some-told _ _ (sym c.known_node.ensures ∙ c.in-Some-Some.is-0) in
+    let to = some-told _ _ (sym c.known_node-2.ensures ∙ c.in-Some-Some.is-1) in
+    listing-between _ _ _ _ _ from.0 to.0 from.1 to.1 _ _ c.states_between.ensures.value
 
-pub returns-else-known_side-2 : goal.returns-else-known_side-2
+pub returns-in-Some-Some-clause-states_after : goal.returns-in-Some-Some-clause-states_after
+returns-in-Some-Some-clause-states_after c =
+    let from = some-told _ _ (sym c.known_node.ensures ∙ c.in-Some-Some.is-0) in
+    let to = some-told _ _ (sym c.known_node-2.ensures ∙ c.in-Some-Some.is-1) in
+    stored-between _ _ _ _ _ from.0 to.0 from.1 to.1 0 _ _ c.states_between.ensures.states_after
+
+pub returns-in_default-clause-value : goal.returns-in_default-clause-value
+returns-in_default-clause-value c =
+    unlisted-goal _ _ _ _ _ _ _ (some-told _ _ (sym c.known_node.ensures ∙ c.in_default.is-0)).0 (none-told _ _ (sym c.known_node-2.ensures ∙ c.in_default.is-1))
+
+pub returns-in_default-clause-states_after : goal.returns-in_default-clause-states_after
 unfolding states_stored
-returns-else-known_side-2 c =
-    record {
-      value = unlisted-goal _ _ _ _ _ _ _ (sym c.known_side.ensures ∙ c.if-known_side.true) (sym c.known_side-then-known_side.ensures ∙ c.if-known_side-2.false);
-      states_after = refl;
-    }
+returns-in_default-clause-states_after c = refl
 
-pub returns-else-known_side : goal.returns-else-known_side
+pub returns-in_default-2-clause-value : goal.returns-in_default-2-clause-value
+returns-in_default-2-clause-value c = unlisted-start _ _ _ _ _ _ _ (none-told _ _ (sym c.known_node.ensures ∙ c.in_default.is-0))
+
+pub returns-in_default-2-clause-states_after : goal.returns-in_default-2-clause-states_after
 unfolding states_stored
-returns-else-known_side c =
-    record {
-      value = unlisted-start _ _ _ _ _ _ _ (sym c.known_side.ensures ∙ c.if-known_side.false);
-      states_after = refl;
-    }
+returns-in_default-2-clause-states_after c = refl

@@ -1,7 +1,7 @@
 -- `routing::states::states_between` meets its contract.
 use mathlib.Core.Path.{refl, sym, ap, ◌∙◌}
 use native.Mathlib.Omega.{arith}
-use Rattle.network.specs.inner.Compiled.{graph_in}
+use Rattle.network.specs.inner.Compiled.{Compiled, graph_in}
 use Rattle.routing.specs.Search.{Search}
 use Rattle.routing.specs.Route.{states_stored}
 use Rattle.routing.proofs.Reached.{reached-begun}
@@ -28,11 +28,12 @@ list_back-requires-clause-by_index c = λ k.
 pub returns-in-Some-clause-value : goal.returns-in-Some-clause-value
 returns-in-Some-clause-value c =
     found-listing _ c.args.start c.args.goal (rw (← c.search.view_is) at (is-searched _ _ c.args.goal c.begin.ensures c.find.ensures)) _ c.in-Some.is _ _
-    (rw (ap length c.graph.view_is) at c.list_back.ensures.value)
+    (rw (ap (λ (g : Compiled). g.lengths) c.graph.view_is) at c.list_back.ensures.value)
 
 pub returns-in-Some-clause-states_after : goal.returns-in-Some-clause-states_after
 returns-in-Some-clause-states_after c =
-    found-stored _ c.args.start c.args.goal (rw (← c.search.view_is) at (is-searched _ _ c.args.goal c.begin.ensures c.find.ensures)) _ c.in-Some.is 0 _ _ c.list_back.ensures.states_after
+    found-stored _ c.args.start c.args.goal (rw (← c.search.view_is) at (is-searched _ _ c.args.goal c.begin.ensures c.find.ensures)) _ c.in-Some.is 0 _ _
+    (rw (ap (λ (g : Compiled). g.lengths) c.graph.view_is) at c.list_back.ensures.states_after)
 
 pub returns-in-None-clause-value : goal.returns-in-None-clause-value
 returns-in-None-clause-value c = none-listing _ c.args.start c.args.goal (is-searched _ _ c.args.goal c.begin.ensures c.find.ensures) c.in-None.is _ _

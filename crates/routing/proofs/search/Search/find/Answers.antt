@@ -22,8 +22,7 @@ pub loop-s-preserved : goal.loop-s-preserved
 unfolding next
 loop-s-preserved c =
     let picked = sym (c.next_state.ensures _ c.loop-s.invariant.0) ∙ c.in-Some.is in
-    let fits = reached-fit c.loop-s.invariant.0 in
-    (
+    let fits = reached-fit c.loop-s.invariant.0 in (
       reached-settled (graph_in c.args.graph.now) c.requires.sound_graph _ _ c.settle.ensures (below (graph_in c.args.graph.now) 0 c.loop-s.self _ fits picked) c.loop-s.invariant.0,
       turn_on _ _ _ _ fits picked c.settle.ensures c.if-s-goal.false ∙ c.loop-s.invariant.1,
     )

@@ -26,8 +26,7 @@ lower-requires c = (
 pub loop-i-preserved : goal.loop-i-preserved
 unfolding of_bits
 loop-i-preserved c =
-    let links = ap (λ (g : Compiled). g.links) c.graph.view_is in
-    (
+    let links = ap (λ (g : Compiled). g.links) c.graph.view_is in (
       omega arith,
       ap (λ (q : Search). q.marks) c.lower.ensures ∙ c.loop-i.invariant.1,
       rw links (left-on _ _ _ _ _ _ _ _ c.loop-i.invariant.2 c.if-e-ge8192.false _ (omega arith) (rw links at (ap (λ (q : Search). q.tables) c.lower.ensures))),
