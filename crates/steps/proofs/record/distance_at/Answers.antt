@@ -10,7 +10,7 @@ unfolding record_length
 candidate_count-count-requires c = omega (arith, c.requires.room)
 
 pub float_at-requires : goal.float_at-requires
-float_at-requires c = pair-room _ _ _ _ _ c.requires c.candidate_count-count.ensures c.distance_count.ensures.fact_1
+float_at-requires c = pair-room _ _ _ _ _ c.requires c.candidate_count-count.ensures c.distance_count.ensures.pairs
 
 pub returns : goal.returns
-returns c = c.float_at.ensures ∙ pair-distance _ _ _ _ _ c.requires c.candidate_count-count.ensures c.distance_count.ensures.fact_1
+returns c = c.float_at.ensures ∙ pair-distance _ _ _ _ _ c.requires c.candidate_count-count.ensures c.distance_count.ensures.pairs
