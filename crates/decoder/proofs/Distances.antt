@@ -31,10 +31,10 @@ use Rattle.decoder.proofs.Refusals.{refusal-of-these}
 
 -- ---- check 10 among the others
 
-two-answers : {A : Type 0} {r k : Refusal} → Err r ≡ Err k → (refusal_number r ≡ refusal_number k → ⊥) → A
+two-answers : {A : Type 0} {r k : Refusal} → ◌≡◌ {A = Checked} (Err r) (Err k) → (refusal_number r ≡ refusal_number k → ⊥) → A
 two-answers {r = r} {k = k} e n = let same : r ≡ k = cc in absurd (n (ap refusal_number same))
 
-not_done : {A : Type 0} {r : Refusal} → Err r ≡ Ok tt → A
+not_done : {A : Type 0} {r : Refusal} → ◌≡◌ {A = Checked} (Err r) (Ok tt) → A
 not_done e = let z : ◌≡◌ {A = ℕ} 0 1 = cc in absurd (omega arith)
 
 -- what checks 8 to 12 and 17 answer, by whether each passes; 10 is two tests
@@ -64,7 +64,7 @@ distances-asked c q = go (eqb c 0) refl
     go true e = let z : c ≡ 0 = eqb→eq c 0 (taken e) in rw z (omega arith)
     go false e = rw e
 
-told-size : (n : ℕ) (o : Option Row) → candidates_told (preceding_of n o) ≡ size_of o
+told-size : (n : ℕ) (o : Option Row) → candidates_told (Ok (preceding_of n o)) ≡ size_of o
 told-size n none = refl
 told-size n (some p) = refl
 
