@@ -4,7 +4,7 @@ use native.Mathlib.Nat.{add-zero, add-suc, suc-add, zero-mul, mul-one, one-mul, 
 use native.Mathlib.Numerals.{add-one}
 use native.Mathlib.Omega.{arith}
 use mathlib.Core.Path.{◌≡◌, refl, sym, ap, ◌∙◌, subst}
-use mathlib.Core.Bool.{Bool, true, false, ◌&&◌, cond, true≢false}
+use mathlib.Core.Bool.{Bool, true, false, not, ◌&&◌, and-true, cond, true≢false}
 use mathlib.Core.List.{List, [], ◌∷◌}
 use mathlib.Core.Logic.{⊎_elim}
 use lib.Dec.{T, eqb, leb, le→leb}
@@ -18,14 +18,17 @@ use lib.Ieee.Back.{round_whole}
 use lib.Ieee.Scale.{round_same}
 use lib.Pow.{pow-add}
 use borrow.Author.Tests.{eq-eqb, ne_eqb, le-leb, lt-leb, leb-true, leb-false}
+use Rattle.std.specs.Prelude.{Option, Some, None}
+use Rattle.std.specs.List.{prefix_len}
 use Rattle.lists.proofs.Loops.{two}
 use Rattle.journal.proofs.Stores.{take_rest}
 use Rattle.binary64.proofs.Bounds.{whole_is}
 use Rattle.text.specs.inner.Numbers.{all_digits, value, value_below}
-use Rattle.text.specs.inner.Floats.{bits_of, point, decimal_of}
-use Rattle.text.specs.declared.float.Float64.TheVariants.{Value, Unreadable}
+use Rattle.std.specs.Cmp.Lexicographic.{pointwise}
+use Rattle.text.specs.inner.Bytes.{bytes, same}
+use Rattle.text.specs.inner.Floats.{bits_of, point, decimal_of, signed_of}
 use Rattle.text.proofs.Bytes.{and-false}
-use Rattle.text.proofs.Numbers.{whole-good, whole-bad, digits_append, value-append, value-from, value-lt}
+use Rattle.text.proofs.Numbers.{IsWhole, whole-good, whole-bad, digits_append, value-append, value-from, value-lt}
 
 -- ---- the quotient of two values that are not negative, by the fractions that they equal
 
@@ -60,17 +63,15 @@ one-division n d h p k = div-whole binary64 _ _ n d p (whole-exact n h) (whole-e
 
 -- ---- the point of a decimal
 
-pub point-past : (w : List ℕ) (k : ℕ) → length w ≤ k → k + point (drop k w) ≡ k
+-- the bytes before it are those up to the first that is one
+pub point-taken : (w : List ℕ) → prefix_len (λ b. not (eqb b 46)) w ≡ point w
 unfolding point
-point-past w k h = rw (drop_of_length-le w h, add-zero)
-
-pub point-stop : (w : List ℕ) (k : ℕ) → k < length w → get_or w k 0 ≡ 46 → k + point (drop k w) ≡ k
-unfolding point
-point-stop w k h e = rw (drop-cons w k 0 h, eq-eqb _ _ e, add-zero)
-
-pub point-turn : (w : List ℕ) (k : ℕ) → k < length w → (get_or w k 0 ≡ 46 → ⊥) → k + point (drop k w) ≡ k + 1 + point (drop (k + 1) w)
-unfolding point
-point-turn w k h e = rw (add-one, drop-cons w k 0 h, ne_eqb _ _ e, add-suc, suc-add)
+point-taken [] = refl
+point-taken (b ∷ l) = go (eqb b 46) refl (point-taken l)
+  where
+    go : (t : Bool) → eqb b 46 ≡ t → prefix_len (λ b. not (eqb b 46)) l ≡ point l → prefix_len (λ b. not (eqb b 46)) (b ∷ l) ≡ cond t 0 (suc (point l))
+    go true e h = rw e
+    go false e h = rw e (rw h (omega arith))
 
 pub point-le : (w : List ℕ) → point w ≤ length w
 unfolding point
@@ -98,8 +99,8 @@ whole-counts n h = le→leb n 9007199254740992 h
 
 -- ---- bits
 
--- a part of eight digits is below 2 to the 32, so where it is not, a byte is no digit
-pub eight-bad : (l : List ℕ) → length l ≡ 8 → 4294967296 ≤ value_below 16 4294967296 0 l → all_digits 16 l ≡ false
+-- a part of eight digits is below 2 to the 32, so where there is none, a byte is no digit
+eight-bad : (l : List ℕ) → length l ≡ 8 → None ≡ value_below 16 4294967296 0 l → all_digits 16 l ≡ false
 eight-bad l e h = whole-bad 16 4294967296 0 l h (λ d. subst (λ n. value 16 0 l < 1 * 16 ^ n) e (value-lt 16 l 0 1 (zero-lt-suc 0) d))
 
 module _ (w : List ℕ) (e : length w ≡ 16) where
@@ -119,104 +120,106 @@ module _ (w : List ℕ) (e : length w ≡ 16) where
       ∙ value-from 16 (value 16 0 (take 8 w)) (drop 8 w)
       ∙ ap (λ n. value 16 0 (take 8 w) * 16 ^ n + value 16 0 (drop 8 w)) back-eight
 
-  pub bits-front-bad : 4294967296 ≤ value_below 16 4294967296 0 (take 8 w) → Unreadable ≡ bits_of w
+  pub bits-front-bad : None ≡ value_below 16 4294967296 0 (take 8 w) → None ≡ bits_of w
   unfolding bits_of
   bits-front-bad h = rw (eq-eqb _ _ e, halves-digits, eight-bad (take 8 w) front-eight h)
 
-  pub bits-back-bad : 4294967296 ≤ value_below 16 4294967296 0 (drop 8 w) → Unreadable ≡ bits_of w
+  pub bits-back-bad : None ≡ value_below 16 4294967296 0 (drop 8 w) → None ≡ bits_of w
   unfolding bits_of
   bits-back-bad h = rw (eq-eqb _ _ e, halves-digits, eight-bad (drop 8 w) back-eight h, and-false (all_digits 16 (take 8 w)))
 
-  pub bits-good : (high low : ℕ) → high ≡ value_below 16 4294967296 0 (take 8 w) → low ≡ value_below 16 4294967296 0 (drop 8 w) → high < 4294967296 → low < 4294967296
-      → Value (of_bits binary64 (high * 4294967296 + low)) ≡ bits_of w
+  pub bits-good : (high low : ℕ) → Some high ≡ value_below 16 4294967296 0 (take 8 w) → Some low ≡ value_below 16 4294967296 0 (drop 8 w)
+      → Some (of_bits binary64 (high * 4294967296 + low)) ≡ bits_of w
   unfolding bits_of
-  bits-good high low p q h k =
-      let u = whole-good 16 4294967296 0 (take 8 w) (rw p at h) in
-      let v = whole-good 16 4294967296 0 (drop 8 w) (rw q at k) in
-      rw (eq-eqb _ _ e, halves-digits, u.0, v.0, halves-value, p, q, u.1, v.1)
+  bits-good high low p q =
+      let u = whole-good 16 4294967296 0 (take 8 w) high p in
+      let v = whole-good 16 4294967296 0 (drop 8 w) low q in
+      rw (eq-eqb _ _ e, halves-digits, u.digits, v.digits, halves-value, u.is, v.is)
 
-pub bits-short : (w : List ℕ) → (length w ≡ 16 → ⊥) → Unreadable ≡ bits_of w
+pub bits-short : (w : List ℕ) → (length w ≡ 16 → ⊥) → None ≡ bits_of w
 unfolding bits_of
 bits-short w h = rw (ne_eqb _ _ h)
 
 -- ---- decimals
 
--- the digits behind the point, from where the code takes them
-behind-from : (w : List ℕ) (p start : ℕ) → start ≡ min (suc p) (length w) → drop start w ≡ drop (suc p) w
-behind-from w p start e = ⊎_elim (λ t. ap (λ k. drop k w) (e ∙ min-eq_left (leb-true _ _ t))) (λ t. past (leb-false _ _ t)) (two (leb (suc p) (length w)))
+-- the bytes behind the point, from where the code takes them
+behind-from : (w : List ℕ) (p start : ℕ) → start ≡ min (p + 1) (length w) → drop start w ≡ drop (suc p) w
+behind-from w p start e = ⊎_elim (λ t. let j : start ≡ suc p = omega (arith, leb-true _ _ t) in ap (λ k. drop k w) j) (λ t. past (leb-false _ _ t)) (two (leb (suc p) (length w)))
   where
     past : length w < suc p → drop start w ≡ drop (suc p) w
     past l = let m : length w ≤ start = omega arith in drop_of_length-le w m ∙ sym (drop_of_length-le w (le_of_lt l))
 
-behind-part : (w : List ℕ) (p start : ℕ) → start ≡ min (suc p) (length w) → take (length w - start) (drop start w) ≡ drop (suc p) w
+pub behind-part : (w : List ℕ) (p start : ℕ) → start ≡ min (p + 1) (length w) → take (length w - start) (drop start w) ≡ drop (suc p) w
 behind-part w p start e = take_rest start w ∙ behind-from w p start e
-
-behind-length : (w : List ℕ) (p start : ℕ) → start ≡ min (suc p) (length w) → length w - start ≡ length (drop (suc p) w)
-behind-length w p start e = sym (length-drop (suc p) w ∙ omega arith)
 
 -- at most 15 digits are below 10 to the 15
 few : (l : List ℕ) (n m : ℕ) → n < 10 ^ m → m + length l ≤ 15 → all_digits 10 l ≡ true → value 10 n l < 1000000000000000
 few l n m h e d = lt_of_lt_of_le (value-lt 10 l n (10 ^ m) h d) (rw (← pow-add 10 m (length l)) (ten-small (m + length l) e))
 
-pub decimal-empty : (s : Bool) (w : List ℕ) (p : ℕ) → p ≡ point w → p ≡ 0 → Unreadable ≡ decimal_of s w
+pub decimal-empty : (s : Bool) (w : List ℕ) (p : ℕ) → p ≡ point w → p ≡ 0 → None ≡ decimal_of s w
 unfolding decimal_of
 decimal-empty s w p e h = rw (sym e ∙ h)
 
--- with p bytes before the point, and what is behind it from `start` on
-module _ (s : Bool) (w : List ℕ) (p start : ℕ) (e : p ≡ point w) (at : start ≡ min (suc p) (length w)) (some : p ≡ 0 → ⊥) where
-  pub decimal-pointed : p + 1 ≡ length w → Unreadable ≡ decimal_of s w
+pub decimal-pointed : (s : Bool) (w : List ℕ) (p : ℕ) → p ≡ point w → (p ≡ 0 → ⊥) → p + 1 ≡ length w → None ≡ decimal_of s w
+unfolding decimal_of
+decimal-pointed s w p e some h = rw (← e, ne_eqb p 0 some, eq-eqb (suc p) (length w) (sym (add-one p) ∙ h))
+
+-- with p bytes before the point, and what is behind it
+module _ (s : Bool) (w : List ℕ) (p : ℕ) (behind : List ℕ) (e : p ≡ point w) (is_behind : behind ≡ drop (suc p) w) (some : p ≡ 0 → ⊥) (other : p + 1 ≡ length w → ⊥) where
+  not_last : eqb (suc p) (length w) ≡ false
+  not_last = ne_eqb (suc p) (length w) (λ h. other (add-one p ∙ h))
+
+  pub decimal-long : 15 < p + length behind → None ≡ decimal_of s w
   unfolding decimal_of
-  decimal-pointed h = rw (← e, ne_eqb p 0 some, eq-eqb (suc p) (length w) (sym (add-one p) ∙ h))
+  decimal-long h = rw (← e, ne_eqb p 0 some, not_last, ← is_behind, lt-leb (p + length behind) 15 h)
 
-  module _ (other : p + 1 ≡ length w → ⊥) where
-    not_last : eqb (suc p) (length w) ≡ false
-    not_last = ne_eqb (suc p) (length w) (λ h. other (add-one p ∙ h))
+  module _ (short : p + length behind ≤ 15) where
+    few-digits : leb (p + length behind) 15 ≡ true
+    few-digits = le-leb _ _ short
 
-    pub decimal-long : 15 < p + (length w - start) → Unreadable ≡ decimal_of s w
+    front_length : length (take p w) ≡ p
+    front_length = length-take-le p w (rw e (point-le w))
+
+    pub decimal-front-bad : None ≡ value_below 10 1000000000000000 0 (take p w) → None ≡ decimal_of s w
     unfolding decimal_of
-    decimal-long h = rw (← e, ne_eqb p 0 some, not_last, lt-leb (p + length (drop (suc p) w)) 15 (rw (behind-length w p start at) at h))
+    decimal-front-bad h =
+        let f : all_digits 10 (take p w) ≡ false = whole-bad 10 1000000000000000 0 (take p w) h (few (take p w) 0 0 (zero-lt-suc 0) (omega (arith, front_length))) in
+        rw (← e, ne_eqb p 0 some, not_last, ← is_behind, few-digits, f)
 
-    module _ (short : p + (length w - start) ≤ 15) where
-      few-digits : leb (p + length (drop (suc p) w)) 15 ≡ true
-      few-digits = le-leb _ _ (rw (behind-length w p start at) at short)
+    module _ (front : ℕ) (is : Some front ≡ value_below 10 1000000000000000 0 (take p w)) where
+      front-good : IsWhole 10 1000000000000000 0 (take p w) front
+      front-good = whole-good 10 1000000000000000 0 (take p w) front is
 
-      front_length : length (take p w) ≡ p
-      front_length = length-take-le p w (rw e (point-le w))
+      front-small : front < 10 ^ p
+      front-small = rw (front-good.is) (subst (λ n. value 10 0 (take p w) < n) (one-mul (10 ^ length (take p w)) ∙ ap (λ k. 10 ^ k) front_length) (value-lt 10 (take p w) 0 1 (zero-lt-suc 0) front-good.digits))
 
-      pub decimal-front-bad : 1000000000000000 ≤ value_below 10 1000000000000000 0 (take p w) → Unreadable ≡ decimal_of s w
+      pub decimal-behind-bad : None ≡ value_below 10 1000000000000000 front behind → None ≡ decimal_of s w
       unfolding decimal_of
-      decimal-front-bad h =
-          let f : all_digits 10 (take p w) ≡ false = whole-bad 10 1000000000000000 0 (take p w) h (few (take p w) 0 0 (zero-lt-suc 0) (omega (arith, front_length))) in
-          rw (← e, ne_eqb p 0 some, not_last, few-digits, f)
+      decimal-behind-bad h =
+          let f : all_digits 10 behind ≡ false = whole-bad 10 1000000000000000 front behind h (few behind front p front-small short) in
+          rw (← e, ne_eqb p 0 some, not_last, ← is_behind, few-digits, front-good.digits, f)
 
-      module _ (front : ℕ) (is : front ≡ value_below 10 1000000000000000 0 (take p w)) (below : front < 1000000000000000) where
-        front-good : (all_digits 10 (take p w) ≡ true) × (value_below 10 1000000000000000 0 (take p w) ≡ value 10 0 (take p w))
-        front-good = whole-good 10 1000000000000000 0 (take p w) (rw is at below)
-
-        front-small : front < 10 ^ p
-        front-small = rw (is, front-good.1) (subst (λ n. value 10 0 (take p w) < n) (one-mul (10 ^ length (take p w)) ∙ ap (λ k. 10 ^ k) front_length) (value-lt 10 (take p w) 0 1 (zero-lt-suc 0) front-good.0))
-
-        pub decimal-behind-bad : 1000000000000000 ≤ value_below 10 1000000000000000 front (take (length w - start) (drop start w)) → Unreadable ≡ decimal_of s w
-        unfolding decimal_of
-        decimal-behind-bad h =
-            let f : all_digits 10 (drop (suc p) w) ≡ false = whole-bad 10 1000000000000000 front (drop (suc p) w) (rw (behind-part w p start at) at h) (few (drop (suc p) w) front p front-small (leb-true _ _ few-digits)) in
-            rw (← e, ne_eqb p 0 some, not_last, few-digits, front-good.0, f)
-
-        pub decimal-good : (n : ℕ) (x : Float) → n ≡ value_below 10 1000000000000000 front (take (length w - start) (drop start w)) → n < 1000000000000000
-            → x ≡ round binary64 s n (10 ^ (length w - start)) → Value x ≡ decimal_of s w
-        unfolding decimal_of
-        decimal-good n x i l r =
-            let j : n ≡ value_below 10 1000000000000000 front (drop (suc p) w) = i ∙ ap (value_below 10 1000000000000000 front) (behind-part w p start at) in
-            let g = whole-good 10 1000000000000000 front (drop (suc p) w) (rw j at l) in
-            rw (r, behind-length w p start at, ← e, ne_eqb p 0 some, not_last, few-digits, front-good.0, g.0, j, g.1, is, front-good.1)
+      pub decimal-good : (n : ℕ) (x : Float) → Some n ≡ value_below 10 1000000000000000 front behind → x ≡ round binary64 s n (10 ^ length behind) → Some x ≡ decimal_of s w
+      unfolding decimal_of
+      decimal-good n x i r =
+          let g = whole-good 10 1000000000000000 front behind n i in
+          rw (r, ← e, ne_eqb p 0 some, not_last, ← is_behind, few-digits, front-good.digits, g.digits, g.is, front-good.is)
 
 -- ---- signs
 
-pub first_past : (w : List ℕ) → length w ≡ 0 → 0 ≡ get_or w 0 0
-first_past [] h = refl
-first_past (b ∷ l) h = absurd (omega arith)
+sign-first : (w : List ℕ) → pointwise eqb (take 1 w) (45 ∷ []) ≡ eqb (get_or w 0 0) 45
+sign-first [] = refl
+sign-first (b ∷ l) = and-true (eqb b 45)
 
--- a word that starts with `-` has a byte
-pub first_some : (w : List ℕ) → get_or w 0 0 ≡ 45 → 1 ≤ length w
-first_some [] h = absurd (omega arith)
-first_some (b ∷ l) h = suc-le-suc zero-le
+module _ (w : List ℕ) (other : same w (bytes "-inf") ≡ false) where
+  pub signed-minus : (x : Option Float) (digits : List ℕ) → pointwise eqb (take 1 w) (45 ∷ []) ≡ true → digits ≡ drop 1 w → x ≡ decimal_of true digits → x ≡ signed_of w
+  unfolding signed_of
+  signed-minus x digits h d e = rw (other, ← sign-first w, h, ← d) e
+
+  pub signed-plus : (x : Option Float) → pointwise eqb (take 1 w) (45 ∷ []) ≡ false → x ≡ decimal_of false w → x ≡ signed_of w
+  unfolding signed_of
+  signed-plus x h e = rw (other, ← sign-first w, h) e
+
+pub signed-infinite : (w : List ℕ) (x : Float) → same w (bytes "-inf") ≡ true → x ≡ inf true → Some x ≡ signed_of w
+unfolding signed_of
+signed-infinite w x h e = rw (h, e)

@@ -3,10 +3,10 @@ pub mod Bytes
 pub mod Words
 pub mod Numbers
 pub mod Floats
-pub mod Keywords
 pub mod Reading
 pub mod Written
 pub mod Back
 pub mod Lists
 pub mod Windows
 pub mod Examples
+pub mod Keywords

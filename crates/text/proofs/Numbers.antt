@@ -1,5 +1,5 @@
 -- A turn of the loop that reads a whole number, and its ends. Assumes nothing.
-use Prim.Native.Nat.{ℕ, suc, ◌+◌, ◌-◌, ◌*◌, ◌^◌, ◌≤◌, ◌<◌, min}
+use Prim.Native.Nat.{ℕ, suc, ◌+◌, ◌-◌, ◌*◌, ◌^◌, ◌≤◌, ◌<◌}
 use native.Mathlib.Numerals.{add-one}
 use native.Mathlib.Nat.{le_trans, le-add_right, le-mul_of_pos_right, mul-le-mul_left, mul-le-mul_right, mul-one, add-zero, pow-zero, pow-suc}
 use native.Mathlib.Omega.{arith}
@@ -11,6 +11,8 @@ use lib.ListN.{length, get_or, drop, drop_of_length-le}
 use lib.Seq.{drop-cons}
 use borrow.Author.Tests.{lt-ltb, le-ltb, le-leb, lt-leb, ltb-true}
 use Rattle.lists.proofs.Loops.{and_both}
+use Rattle.std.specs.Prelude.{Option, Some, None}
+use Rattle.text.proofs.Bytes.{and-false}
 use Rattle.text.specs.inner.Numbers.{figure, all_digits, value, value_below}
 
 -- digits never make a number smaller
@@ -23,20 +25,16 @@ value-ge base n (b ∷ l) h = le_trans (le_trans (le-mul_of_pos_right n h) (le-a
 pub next-value : (base limit n d : ℕ) → base ≤ 16 → limit ≤ 1000000000000000 → n < limit → d < base → n * base + d < 16000000000000000
 next-value base limit n d h e l k = omega (arith, mul-le-mul_left n h)
 
-pub whole-past : (base limit n : ℕ) (l : List ℕ) (k : ℕ) → length l ≤ k → n < limit → value_below base limit n (drop k l) ≡ n
+pub whole-past : (base limit n : ℕ) (l : List ℕ) (k : ℕ) → length l ≤ k → n < limit → value_below base limit n (drop k l) ≡ Some n
 unfolding value_below all_digits value
-whole-past base limit n l k h e = rw (drop_of_length-le l h) (omega arith)
+whole-past base limit n l k h e = rw (drop_of_length-le l h, lt-ltb n limit e)
 
--- from the limit on it is the limit
-pub whole-over : (base limit n : ℕ) (l : List ℕ) → 1 ≤ base → limit ≤ n → value_below base limit n l ≡ limit
+-- from the limit on there is none
+pub whole-over : (base limit n : ℕ) (l : List ℕ) → 1 ≤ base → limit ≤ n → value_below base limit n l ≡ None
 unfolding value_below
-whole-over base limit n l h e = go (all_digits base l)
-  where
-    go : (t : Bool) → cond t (min limit (value base n l)) limit ≡ limit
-    go true = omega (arith, value-ge base n l h)
-    go false = refl
+whole-over base limit n l h e = rw (le-ltb (value base n l) limit (le_trans e (value-ge base n l h)), and-false (all_digits base l))
 
-pub whole-other : (base limit n : ℕ) (l : List ℕ) (k : ℕ) → k < length l → base ≤ figure (get_or l k 0) → value_below base limit n (drop k l) ≡ limit
+pub whole-other : (base limit n : ℕ) (l : List ℕ) (k : ℕ) → k < length l → base ≤ figure (get_or l k 0) → value_below base limit n (drop k l) ≡ None
 unfolding value_below all_digits
 whole-other base limit n l k h e = rw (drop-cons l k 0 h, le-ltb _ _ e)
 
@@ -66,22 +64,28 @@ pub figure-above : (b : ℕ) → 70 < b → 16 ≡ figure b
 unfolding figure
 figure-above b h = rw (le-leb 48 b (omega arith), lt-leb b 57 (omega arith), le-leb 65 b (omega arith), lt-leb b 70 h)
 
--- ---- what a number below the limit tells, and one that is not
+-- ---- what a number below the limit tells, and where there is none
 
-pub whole-good : (base limit n : ℕ) (l : List ℕ) → value_below base limit n l < limit → (all_digits base l ≡ true) × (value_below base limit n l ≡ value base n l)
+pub record IsWhole (base limit n : ℕ) (l : List ℕ) (m : ℕ) : Type 0 where
+  pub digits : all_digits base l ≡ true
+  pub is : m ≡ value base n l
+  pub below : m < limit
+
+pub whole-good : (base limit n : ℕ) (l : List ℕ) (m : ℕ) → Some m ≡ value_below base limit n l → IsWhole base limit n l m
 unfolding value_below
-whole-good base limit n l h = go (all_digits base l) refl h
+whole-good base limit n l m h = go (all_digits base l) (ltb (value base n l) limit) refl refl h
   where
-    go : (t : Bool) → all_digits base l ≡ t → cond t (min limit (value base n l)) limit < limit → (t ≡ true) × (cond t (min limit (value base n l)) limit ≡ value base n l)
-    go true e k = (refl, omega arith)
-    go false e k = absurd (omega arith)
+    go : (s t : Bool) → all_digits base l ≡ s → ltb (value base n l) limit ≡ t → ◌≡◌ {A = Option ℕ} (Some m) (cond (s && t) (Some (value base n l)) None) → IsWhole base limit n l m
+    go true true d f e = let i : m ≡ value base n l = cc in record { digits = d; is = i; below = rw i (ltb-true _ _ f) }
+    go true false d f e = cc
+    go false t d f e = cc
 
-pub whole-bad : (base limit n : ℕ) (l : List ℕ) → limit ≤ value_below base limit n l → (all_digits base l ≡ true → value base n l < limit) → all_digits base l ≡ false
+pub whole-bad : (base limit n : ℕ) (l : List ℕ) → None ≡ value_below base limit n l → (all_digits base l ≡ true → value base n l < limit) → all_digits base l ≡ false
 unfolding value_below
 whole-bad base limit n l h f = go (all_digits base l) refl h
   where
-    go : (t : Bool) → all_digits base l ≡ t → limit ≤ cond t (min limit (value base n l)) limit → t ≡ false
-    go true e k = absurd (omega (arith, f e))
+    go : (t : Bool) → all_digits base l ≡ t → ◌≡◌ {A = Option ℕ} None (cond (t && ltb (value base n l) limit) (Some (value base n l)) None) → t ≡ false
+    go true e k = let b : ltb (value base n l) limit ≡ true = lt-ltb _ _ (f e) in let k' : ◌≡◌ {A = Option ℕ} None (Some (value base n l)) = rw b at k in cc
     go false e k = refl
 
 -- ---- numbers of two parts

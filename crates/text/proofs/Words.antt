@@ -1,5 +1,5 @@
 -- A turn of the loops that look for a word, and their ends. Assumes nothing.
-use Prim.Native.Nat.{ℕ, zero, suc, ◌+◌, ◌-◌, ◌≤◌, ◌<◌, min, zero-le, suc-le-suc}
+use Prim.Native.Nat.{ℕ, zero, suc, ◌+◌, ◌-◌, ◌≤◌, ◌<◌, min, max, zero-le, suc-le-suc}
 use native.Mathlib.Nat.{add-zero, add-suc, suc-add, le_of_suc-le-suc, not-suc-le-zero}
 use native.Mathlib.Numerals.{add-one}
 use native.Mathlib.Omega.{arith}
@@ -11,7 +11,8 @@ use lib.Dec.{eqb, leb, ltb}
 use lib.ListN.{length, get_or, take, drop, drop_of_length-le, length-drop}
 use lib.Seq.{drop-cons, get_or-drop, take_all, take-nil}
 use borrow.Author.Tests.{eq-eqb, ne_eqb, leb-true, leb-false, ltb-true, ltb-false}
-use Rattle.lists.proofs.Loops.{or_right, clash, two}
+use Rattle.std.specs.List.{prefix_len}
+use Rattle.lists.proofs.Loops.{clash, two}
 use Rattle.text.proofs.Bytes.{and-false}
 use Rattle.text.specs.inner.Words.{breaks, commented, gap, word_length, next_word, bytes_of}
 use Rattle.text.specs.declared.word.Word.{Word}
@@ -21,9 +22,30 @@ pub gap-past : (c : Bool) (text : List ℕ) (i : ℕ) → length text ≤ i → 
 unfolding gap
 gap-past c text i h = rw (drop_of_length-le text h, add-zero)
 
-pub run_past : (text : List ℕ) (i : ℕ) → length text ≤ i → i + word_length (drop i text) ≡ i
+-- where the loop ends, none is left
+pub gap-end : (text : List ℕ) (at i m : ℕ) (c : Bool) → m ≡ max at (length text) → (at ≤ length text → i ≤ length text) → length text ≤ i → at + gap false (drop at text) ≡ i + gap c (drop i text)
+    → m ≡ at + gap false (drop at text)
+gap-end text at i m c h k l e = ⊎_elim (λ t. inside (leb-true _ _ t)) (λ t. past (leb-false _ _ t)) (two (leb at (length text)))
+  where
+    inside : at ≤ length text → m ≡ at + gap false (drop at text)
+    inside p = let j : m ≡ i = omega (arith, k p) in j ∙ sym (e ∙ gap-past c text i l)
+
+    past : length text < at → m ≡ at + gap false (drop at text)
+    past p = let j : m ≡ at = omega arith in let q : length text ≤ at = omega arith in j ∙ sym (gap-past false text at q)
+
+run_past : (text : List ℕ) (i : ℕ) → length text ≤ i → i + word_length (drop i text) ≡ i
 unfolding word_length
 run_past text i h = rw (drop_of_length-le text h, add-zero)
+
+-- a word goes as far as no byte ends it
+pub run-taken : (l : List ℕ) → prefix_len (λ b. not (breaks b)) l ≡ word_length l
+unfolding word_length
+run-taken [] = refl
+run-taken (b ∷ l) = go (breaks b) refl (run-taken l)
+  where
+    go : (t : Bool) → breaks b ≡ t → prefix_len (λ b. not (breaks b)) l ≡ word_length l → prefix_len (λ b. not (breaks b)) (b ∷ l) ≡ cond t 0 (suc (word_length l))
+    go true e h = rw e
+    go false e h = rw e (rw h (omega arith))
 
 -- a byte that does not stand before a word starts one
 pub gap-stop : (c : Bool) (text : List ℕ) (i : ℕ) → i < length text → c || breaks (get_or text i 0) ≡ false → i + gap c (drop i text) ≡ i
@@ -34,32 +56,6 @@ pub gap-turn : (c : Bool) (text : List ℕ) (i : ℕ) → i < length text → c 
     → i + gap c (drop i text) ≡ i + 1 + gap (commented c (get_or text i 0)) (drop (i + 1) text)
 unfolding gap
 gap-turn c text i h e = rw (add-one, drop-cons text i 0 h, e, add-suc, suc-add)
-
-pub run-stop : (text : List ℕ) (i : ℕ) → i < length text → breaks (get_or text i 0) ≡ true → i + word_length (drop i text) ≡ i
-unfolding word_length
-run-stop text i h e = rw (drop-cons text i 0 h, e, add-zero)
-
-pub run-turn : (text : List ℕ) (i : ℕ) → i < length text → breaks (get_or text i 0) ≡ false → i + word_length (drop i text) ≡ i + 1 + word_length (drop (i + 1) text)
-unfolding word_length
-run-turn text i h e = rw (add-one, drop-cons text i 0 h, e, add-suc, suc-add)
-
--- what the tests of a byte come to
-pub breaks-last : (b : ℕ) → (b ≡ 9 → ⊥) → (b ≡ 10 → ⊥) → (b ≡ 13 → ⊥) → (b ≡ 32 → ⊥) → eqb b 35 ≡ breaks b
-unfolding breaks
-breaks-last b p q r s = rw (ne_eqb b 9 p, ne_eqb b 10 q, ne_eqb b 13 r, ne_eqb b 32 s)
-
-pub commented-end : (c : Bool) (b : ℕ) → b ≡ 10 → false ≡ commented c b
-unfolding commented
-commented-end c b e = sym (ap (λ t. (c || eqb b 35) && not t) (eq-eqb b 10 e) ∙ and-false (c || eqb b 35))
-
-pub commented-start : (c : Bool) (b : ℕ) → b ≡ 35 → true ≡ commented c b
-unfolding commented
-commented-start c b e = rw e (sym (ap (λ t. t && true) (or_right c)))
-
-pub commented-on : (c : Bool) (b : ℕ) → (b ≡ 10 → ⊥) → (b ≡ 35 → ⊥) → c ≡ commented c b
-unfolding commented
-commented-on true b p q = rw (ne_eqb b 10 p)
-commented-on false b p q = rw (ne_eqb b 35 q)
 
 -- ---- what a word is
 

@@ -1,5 +1,5 @@
 // Floats: 16 hexadecimal digits, or a decimal for people. A decimal has at most 15 digits, so no word is both.
-ghost use Rattle.std.specs.Prelude.{◌≡◌, ◌^◌, ◌≤◌, ◌<◌};
+ghost use Rattle.std.specs.Prelude.{◌≡◌, ◌^◌, ◌≤◌, ◌<◌, length};
 ghost use Rattle.std.specs.Float.{binary64};
 ghost use Rattle.std.specs.Float.Ieee.{round};
 ghost use Rattle.text.specs.inner.Floats.{bits_of, point, decimal_of, signed_of, float_of};
@@ -21,7 +21,8 @@ fn read_bits(word: &[u8]) -> Option<f64>
 
 // How many bytes come before the first point.
 fn point_at(word: &[u8]) -> usize
-    ensures { result ≡ point word.now }
+    ensures value { result ≡ point word.now }
+    ensures within { result ≤ length word.now }
 {
     word.iter().take_while(|b| **b != b'.').count()
 }
@@ -56,14 +57,17 @@ fn read_decimal(negative: bool, word: &[u8]) -> Option<f64>
 fn read_signed(word: &[u8]) -> Option<f64>
     ensures { result ≡ signed_of word.now }
 {
-    match word {
-        b"-inf" => Some(binary64::minus_infinity()),
-        [b'-', digits @ ..] => read_decimal(true, digits),
-        _ => read_decimal(false, word),
+    if word == b"-inf".as_slice() {
+        return Some(binary64::minus_infinity());
+    }
+    match word.strip_prefix(b"-") {
+        Some(digits) => read_decimal(true, digits),
+        None => read_decimal(false, word),
     }
 }
 
 // A float of either form.
+#[tactic(auto, unfolding(crate::specs::inner::Floats::float_of))]
 pub fn read_float(word: &[u8]) -> Option<f64>
     ensures { result ≡ float_of word.now }
 {

@@ -1,8 +1,9 @@
 // Whole numbers: decimal, or in hexadecimal digits of upper case.
-ghost use Rattle.std.specs.Prelude.{◌≡◌, ◌≤◌, ◌<◌};
+ghost use Rattle.std.specs.Prelude.{◌≡◌, ◌≤◌, ◌<◌, IfSome};
 ghost use Rattle.text.specs.inner.Numbers.{value_below, number_of, hex_word_of, figure as Numbers·figure};
 
 // What a digit counts; 16, which no base has, for any byte that is none.
+#[tactic(auto, unfolding(crate::specs::inner::Numbers::figure))]
 fn figure(b: u8) -> u64
     ensures { result ≡ Numbers·figure b }
 {
@@ -16,7 +17,8 @@ fn figure(b: u8) -> u64
 // The number that starts with n and goes on with the digits, where it is below the limit and every byte is a digit of the base.
 pub fn read_whole(base: u64, limit: u64, n: u64, bytes: &[u8]) -> Option<u64>
     requires { (1 ≤ base) × (base ≤ 16) × (limit ≤ 1000000000000000) × (n < limit) }
-    ensures { result ≡ value_below base limit n bytes.now }
+    ensures value { result ≡ value_below base limit n bytes.now }
+    ensures below { IfSome result (λ m. m < limit) }
 {
     let mut value = n;
     for b in bytes {
@@ -33,6 +35,7 @@ pub fn read_whole(base: u64, limit: u64, n: u64, bytes: &[u8]) -> Option<u64>
 }
 
 // A decimal number of 32 bits.
+#[tactic(auto, unfolding(crate::specs::inner::Numbers::number_of))]
 pub fn read_number(word: &[u8]) -> Option<u32>
     ensures { result ≡ number_of word.now }
 {
@@ -43,6 +46,7 @@ pub fn read_number(word: &[u8]) -> Option<u32>
 }
 
 // A word of eight hexadecimal digits.
+#[tactic(auto, unfolding(crate::specs::inner::Numbers::hex_word_of))]
 pub fn read_hex_word(word: &[u8]) -> Option<u32>
     ensures { result ≡ hex_word_of word.now }
 {

@@ -9,6 +9,7 @@ pub struct Word {
     pub end: usize,
 }
 
+#[tactic(auto, unfolding(crate::specs::inner::Words::breaks))]
 fn breaks(b: u8) -> bool
     ensures { result ≡ Words·breaks b }
 {
@@ -16,6 +17,7 @@ fn breaks(b: u8) -> bool
 }
 
 // Whether a comment goes on after a byte.
+#[tactic(auto, unfolding(crate::specs::inner::Words::commented))]
 fn commented(comment: bool, b: u8) -> bool
     ensures { result ≡ Words·commented comment b }
 {
@@ -45,6 +47,7 @@ fn skip_word(text: &[u8], at: usize) -> usize
 }
 
 // The next word from a place on.
+#[tactic(auto, unfolding(crate::specs::inner::Words::next_word))]
 pub fn next_word(text: &[u8], at: usize) -> Word
     ensures { result ≡ next_word text.now at }
 {

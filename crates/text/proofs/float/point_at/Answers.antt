@@ -1,18 +1,15 @@
 -- `text::float::point_at` meets its contract.
-use native.Mathlib.Nat.{zero-add}
-use native.Mathlib.Omega.{arith}
-use mathlib.Core.Path.{sym, ◌∙◌}
-use Rattle.text.proofs.Floats.{point-past, point-stop, point-turn}
+use Rattle.std.proofs.Common.{not, eqb, ◌∙◌, rules, tests}
+use Rattle.std.proofs.lemmas.Iterator.{YieldsList-from_slice}
+use Rattle.std.proofs.lemmas.Iterator.Consumers.{count_from_yields_List}
+use Rattle.std.proofs.lemmas.Iterator.Search.{YieldsList-from_take_while}
+use Rattle.std.proofs.lemmas.List.Folds.{length-prefix_len}
+use Rattle.text.proofs.Floats.{point-taken}
 use Rattle.text.proofs.float.point_at.Goals as goal
 
-pub loop-k-init : goal.loop-k-init
-loop-k-init c = (omega arith, sym (zero-add _))
-
-pub returns-then-word-k-eq46 : goal.returns-then-word-k-eq46
-returns-then-word-k-eq46 c = sym (c.loop-k.invariant.1 ∙ point-stop _ _ c.loop-k-test.true c.if-word-k-eq46.true)
-
-pub loop-k-preserved : goal.loop-k-preserved
-loop-k-preserved c = (omega arith, c.loop-k.invariant.1 ∙ point-turn _ _ c.loop-k-test.true c.if-word-k-eq46.false)
-
-pub returns : goal.returns
-returns c = sym (c.loop-k.invariant.1 ∙ point-past _ _ c.loop-k-test.false)
+pub returns-clause-value : goal.returns-clause-value
+returns-clause-value c =
+    count_from_yields_List c.take_while.result _ c.count.ensures.ran
+    (YieldsList-from_take_while _ (λ b. not (eqb b 46)) (YieldsList-from_slice c.args.word.now cc) c.take_while.ensures.closure c.take_while.ensures.done (λ x b q k. search (rules, tests)))
+    ∙ length-prefix_len (λ b. not (eqb b 46)) c.args.word.now
+    ∙ point-taken c.args.word.now

@@ -1,26 +1,13 @@
 -- `text::float::read_signed` meets its contract.
-use Rattle.journal.proofs.Stores.{take_rest}
-use mathlib.Core.Path.{sym, ap, ◌∙◌}
-use borrow.Author.Tests.{eq-eqb, ne_eqb}
-use Rattle.text.specs.inner.Floats.{signed_of}
-use Rattle.text.specs.declared.float.Float64.TheVariants.{Value}
-use Rattle.text.proofs.Floats.{first_some}
+use Rattle.text.proofs.Bytes.{same_told}
+use Rattle.text.proofs.Floats.{signed-infinite, signed-minus, signed-plus}
 use Rattle.text.proofs.float.read_signed.Goals as goal
 
-pub returns-then-same_bytes : goal.returns-then-same_bytes
-unfolding signed_of
-returns-then-same_bytes c = rw (sym c.same_bytes.ensures ∙ c.if-same_bytes.true) (ap Value c.minus_infinity.ensures)
+pub returns-then-eq : goal.returns-then-eq
+returns-then-eq c = signed-infinite _ _ (same_told _ _ _ c.eq.ensures c.as_slice.ensures c.if-eq.true) c.minus_infinity.ensures
 
-pub slice_bounds-read_decimal-count : goal.slice_bounds-read_decimal-count
-slice_bounds-read_decimal-count c = first_some c.args.word.now (rw c.first_byte.ensures at c.if-first_byte-eq45.true)
+pub returns-in-Some : goal.returns-in-Some
+returns-in-Some c = let h = c.in-Some.ensures.cases in signed-minus _ (same_told _ _ _ c.eq.ensures c.as_slice.ensures c.if-eq.false) _ _ h.0 h.1 c.read_decimal.ensures
 
-pub slice_bounds-read_decimal-start : goal.slice_bounds-read_decimal-start
-slice_bounds-read_decimal-start c = first_some c.args.word.now (rw c.first_byte.ensures at c.if-first_byte-eq45.true)
-
-pub returns-then-first_byte-eq45 : goal.returns-then-first_byte-eq45
-unfolding signed_of
-returns-then-first_byte-eq45 c = rw (sym c.same_bytes.ensures ∙ c.if-same_bytes.false, eq-eqb _ _ (rw c.first_byte.ensures at c.if-first_byte-eq45.true)) (rw take_rest at c.read_decimal.ensures)
-
-pub returns : goal.returns
-unfolding signed_of
-returns c = rw (sym c.same_bytes.ensures ∙ c.if-same_bytes.false, ne_eqb _ _ (rw c.first_byte.ensures at c.if-first_byte-eq45.false)) c.read_decimal-2.ensures
+pub returns-in-None : goal.returns-in-None
+returns-in-None c = signed-plus _ (same_told _ _ _ c.eq.ensures c.as_slice.ensures c.if-eq.false) _ c.in-None.ensures.cases c.read_decimal-in-None.ensures

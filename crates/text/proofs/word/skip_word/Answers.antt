@@ -1,16 +1,18 @@
 -- `text::word::skip_word` meets its contract.
-use mathlib.Core.Path.{refl, sym, ◌∙◌}
-use Rattle.text.proofs.Words.{run_past, run-stop, run-turn}
+use Rattle.std.proofs.Common.{◌+◌, not, drop, ap, ◌∙◌, rules, tests}
+use Rattle.std.proofs.lemmas.Iterator.{YieldsList-from_slice}
+use Rattle.std.proofs.lemmas.Iterator.Adapters.{YieldsList-from_skip}
+use Rattle.std.proofs.lemmas.Iterator.Consumers.{count_from_yields_List}
+use Rattle.std.proofs.lemmas.Iterator.Search.{YieldsList-from_take_while}
+use Rattle.std.proofs.lemmas.List.Folds.{length-prefix_len}
+use Rattle.text.specs.inner.Words.{breaks}
+use Rattle.text.proofs.Words.{run-taken}
 use Rattle.text.proofs.word.skip_word.Goals as goal
 
-pub loop-i-init : goal.loop-i-init
-loop-i-init c = refl
-
-pub returns-then-breaks : goal.returns-then-breaks
-returns-then-breaks c = sym (c.loop-i.invariant ∙ run-stop _ _ c.loop-i-test.true (sym c.breaks.ensures ∙ c.if-breaks.true))
-
-pub loop-i-preserved : goal.loop-i-preserved
-loop-i-preserved c = c.loop-i.invariant ∙ run-turn _ _ c.loop-i-test.true (sym c.breaks.ensures ∙ c.if-breaks.false)
-
 pub returns : goal.returns
-returns c = sym (c.loop-i.invariant ∙ run_past _ _ c.loop-i-test.false)
+returns c =
+    let n =
+    count_from_yields_List c.take_while.result _ c.count.ensures.ran
+    (YieldsList-from_take_while _ (λ b. not (breaks b)) (YieldsList-from_skip c.args.at (YieldsList-from_slice c.args.text.now cc) cc) c.take_while.ensures.closure c.take_while.ensures.done (λ x b q k. search (rules, tests)))
+    ∙ length-prefix_len (λ b. not (breaks b)) (drop c.args.at c.args.text.now) in
+    ap (λ n. c.args.at + n) (n ∙ run-taken (drop c.args.at c.args.text.now))
