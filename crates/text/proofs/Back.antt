@@ -16,8 +16,7 @@ use Rattle.lists.proofs.Loops.{two, and_both}
 use Rattle.text.specs.inner.Numbers.{figure, all_digits, value, value_below, number_of, hex_word_of}
 use Rattle.text.specs.inner.Floats.{bits_of, float_of}
 use Rattle.text.specs.inner.Written.{glyph, last_digits, zeros, decimal, hex_word, hex_float}
-use Rattle.text.specs.declared.number.Number.{Number}
-use Rattle.text.specs.declared.float.Float64.{Float64}
+use Rattle.std.specs.Prelude.{Some}
 use Rattle.text.proofs.Numbers.{figure-decimal, figure-letter}
 use Rattle.text.proofs.Written.{length_digits}
 
@@ -93,26 +92,26 @@ some_left [] h e = omega arith
 some_left (b ∷ l) h e = omega (arith, length-drop (zeros (b ∷ l)) (b ∷ l), zeros-less b l)
 
 -- a number below the limit that its digits write
-whole-written : (base limit n : ℕ) (l : List ℕ) → all_digits base l ≡ true → value base 0 l ≡ n → n < limit → value_below base limit 0 l ≡ n
+whole-written : (base limit n : ℕ) (l : List ℕ) → all_digits base l ≡ true → value base 0 l ≡ n → n < limit → value_below base limit 0 l ≡ Some n
 unfolding value_below
-whole-written base limit n l d v h = rw (d, v) (omega arith)
+whole-written base limit n l d v h = rw (d, v, lt-ltb n limit h)
 
-pub number-back : (n : ℕ) → n < 4294967296 → number_of (decimal n) ≡ Number.Value n
+pub number-back : (n : ℕ) → n < 4294967296 → number_of (decimal n) ≡ Some n
 unfolding number_of decimal
 number-back n h =
     let ten = last_digits 10 10 n in
     let d : all_digits 10 (drop (zeros ten) ten) ≡ true = digits-drop 10 (zeros ten) ten (digits-written 10 10 n (omega arith) (omega arith)) in
     let v : value 10 0 (drop (zeros ten) ten) ≡ n = value-zeros ten ∙ value_written 10 10 0 n (omega arith) (omega arith) ∙ omega arith in
-    rw (ne_eqb _ _ (some_left ten (omega (arith, length_digits 10 10 n))), whole-written 10 4294967296 n _ d v h, lt-ltb n 4294967296 h)
+    rw (ne_eqb _ _ (some_left ten (omega (arith, length_digits 10 10 n))), whole-written 10 4294967296 n _ d v h)
 
-pub word_back : (w : ℕ) → w < 4294967296 → hex_word_of (hex_word w) ≡ Number.Value w
+pub word_back : (w : ℕ) → w < 4294967296 → hex_word_of (hex_word w) ≡ Some w
 unfolding hex_word_of
 word_back w h =
     let d : all_digits 16 (last_digits 16 8 w) ≡ true = digits-written 16 8 w (omega arith) (omega arith) in
     let v : value 16 0 (last_digits 16 8 w) ≡ w = value_written 16 8 0 w (omega arith) (omega arith) ∙ omega arith in
-    rw (eq-eqb _ _ (length_digits 16 8 w), whole-written 16 4294967296 w _ d v h, lt-ltb w 4294967296 h)
+    rw (eq-eqb _ _ (length_digits 16 8 w), whole-written 16 4294967296 w _ d v h)
 
-pub float_back : (x : Float) → T (fits binary64 x) → float_of (hex_float x) ≡ Float64.Value x
+pub float_back : (x : Float) → T (fits binary64 x) → float_of (hex_float x) ≡ Some x
 unfolding float_of bits_of
 float_back x h =
     let b = to_bits binary64 x in

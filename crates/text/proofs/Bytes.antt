@@ -12,12 +12,12 @@ and-false true = refl
 and-false false = refl
 
 -- what `==` says of two words
-pub same-pointwise : (a b : List ℕ) → pointwise eqb a b ≡ same a b
+pub same_pointwise : (a b : List ℕ) → pointwise eqb a b ≡ same a b
 unfolding same
-same-pointwise [] [] = refl
-same-pointwise [] (y ∷ b) = refl
-same-pointwise (x ∷ a) [] = refl
-same-pointwise (x ∷ a) (y ∷ b) = ap (λ t. eqb x y && t) (same-pointwise a b)
+same_pointwise [] [] = refl
+same_pointwise [] (y ∷ b) = refl
+same_pointwise (x ∷ a) [] = refl
+same_pointwise (x ∷ a) (y ∷ b) = ap (λ t. eqb x y && t) (same_pointwise a b)
 
 pub same_told : (a b c : List ℕ) {r t : Bool} → r ≡ pointwise eqb a b → b ≡ c → r ≡ t → same a c ≡ t
-same_told a b c e i h = sym (same-pointwise a c) ∙ sym (ap (pointwise eqb a) i) ∙ sym e ∙ h
+same_told a b c e i h = sym (same_pointwise a c) ∙ sym (ap (pointwise eqb a) i) ∙ sym e ∙ h

@@ -1,6 +1,6 @@
 -- A decimal's one division is the rounded quotient: the two whole numbers are floats exactly. Assumes nothing.
 use Prim.Native.Nat.{ℕ, zero, suc, ◌+◌, ◌-◌, ◌*◌, ◌^◌, ◌≤◌, ◌<◌, min, zero-le, suc-le-suc}
-use native.Mathlib.Nat.{add-zero, add-suc, suc-add, zero-mul, mul-one, one-mul, mul-pos, zero-lt-suc, lt_irrefl, le_of_lt, lt_of_lt_of_le, min-eq_left, one-le-pow, pow-le-pow_right}
+use native.Mathlib.Nat.{zero-mul, mul-one, one-mul, mul-pos, zero-lt-suc, lt_irrefl, le_of_lt, lt_of_lt_of_le, one-le-pow, pow-le-pow_right}
 use native.Mathlib.Numerals.{add-one}
 use native.Mathlib.Omega.{arith}
 use mathlib.Core.Path.{◌≡◌, refl, sym, ap, ◌∙◌, subst}
@@ -10,7 +10,7 @@ use mathlib.Core.Logic.{⊎_elim}
 use lib.Dec.{T, eqb, leb, le→leb}
 use lib.IntN.{pos}
 use lib.ListN.{length, get_or, take, drop, drop_of_length-le, take-append-drop, length-drop}
-use lib.Seq.{drop-cons, length-take-le}
+use lib.Seq.{length-take-le}
 use lib.Ieee.{Float, nan, inf, fin, Format, up, down, round, div, of_int, in_float, of_bits, binary64}
 use lib.Ieee.Fits.{up_pos, down_pos}
 use lib.Ieee.Exact.{HasValue}

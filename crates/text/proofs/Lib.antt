@@ -7,6 +7,5 @@ pub mod Reading
 pub mod Written
 pub mod Back
 pub mod Lists
-pub mod Windows
 pub mod Examples
 pub mod Keywords

@@ -44,25 +44,13 @@ unfolding value_below all_digits value
 whole-turn base limit n l k h e = rw (add-one, drop-cons l k 0 h, lt-ltb _ _ e)
 
 -- ---- what a digit counts
-pub figure-below : (b : ℕ) → b < 48 → 16 ≡ figure b
-unfolding figure
-figure-below b h = rw (lt-leb 48 b h, lt-leb 65 b (omega arith))
-
 pub figure-decimal : (b : ℕ) → 48 ≤ b → b ≤ 57 → b - 48 ≡ figure b
 unfolding figure
 figure-decimal b h k = rw (le-leb 48 b h, le-leb b 57 k)
 
-pub figure-between : (b : ℕ) → 57 < b → b < 65 → 16 ≡ figure b
-unfolding figure
-figure-between b h k = rw (le-leb 48 b (omega arith), lt-leb b 57 h, lt-leb 65 b k)
-
 pub figure-letter : (b : ℕ) → 65 ≤ b → b ≤ 70 → b - 65 + 10 ≡ figure b
 unfolding figure
 figure-letter b h k = rw (le-leb 48 b (omega arith), lt-leb b 57 (omega arith), le-leb 65 b h, le-leb b 70 k)
-
-pub figure-above : (b : ℕ) → 70 < b → 16 ≡ figure b
-unfolding figure
-figure-above b h = rw (le-leb 48 b (omega arith), lt-leb b 57 (omega arith), le-leb 65 b (omega arith), lt-leb b 70 h)
 
 -- ---- what a number below the limit tells, and where there is none
 

@@ -1,4 +1,4 @@
--- The next word, read and counted; words by their numbers. Assumes nothing.
+-- Words by their numbers. Assumes nothing.
 use Prim.Native.Nat.{ℕ, zero, suc, ◌<◌, min}
 use native.Mathlib.Nat.{not-suc-le-zero, le_of_suc-le-suc}
 use native.Mathlib.Omega.{arith}
@@ -9,18 +9,6 @@ use lib.Dec.{eqb}
 use lib.ListN.{length, get_or}
 use Rattle.text.specs.inner.Words.{next_word, bytes_of, words_from, all_words}
 use Rattle.text.specs.inner.Cursor.{along}
-use Rattle.text.specs.declared.word.Word.{Word}
-use Rattle.text.specs.declared.cursor.Cursor.{Cursor}
-
--- what is made of the next word, in the order of the code: the word, its bytes, what they are read as
-pub in-turn : {A B : Type 0} (text : List ℕ) (c : Cursor) (w : Word) (bs : List ℕ) (a : A) (b other : B) (read : List ℕ → A) (taken : Cursor → Word → A → B)
-    → c.bad ≡ false → w ≡ next_word text c.at → bs ≡ bytes_of text w → a ≡ read bs → b ≡ taken c w a
-    → b ≡ cond c.bad other (taken c (next_word text c.at) (read (bytes_of text (next_word text c.at))))
-in-turn text c w bs a b other read taken f e i h t =
-    t
-    ∙ ap (taken c w) (h ∙ ap read i)
-    ∙ ap (λ v. taken c v (read (bytes_of text v))) e
-    ∙ sym (ap (λ s. cond s other (taken c (next_word text c.at) (read (bytes_of text (next_word text c.at))))) f)
 
 -- ---- numbers of words
 

@@ -1,20 +1,19 @@
 -- A turn of the loops that look for a word, and their ends. Assumes nothing.
-use Prim.Native.Nat.{ℕ, zero, suc, ◌+◌, ◌-◌, ◌≤◌, ◌<◌, min, max, zero-le, suc-le-suc}
+use Prim.Native.Nat.{ℕ, zero, suc, ◌+◌, ◌-◌, ◌≤◌, ◌<◌, max, zero-le, suc-le-suc}
 use native.Mathlib.Nat.{add-zero, add-suc, suc-add, le_of_suc-le-suc, not-suc-le-zero}
 use native.Mathlib.Numerals.{add-one}
 use native.Mathlib.Omega.{arith}
 use mathlib.Core.Path.{◌≡◌, refl, sym, ap, ◌∙◌}
-use mathlib.Core.Bool.{Bool, true, false, not, ◌&&◌, ◌||◌, cond}
+use mathlib.Core.Bool.{Bool, true, false, not, ◌||◌, cond}
 use mathlib.Core.List.{List, [], ◌∷◌}
 use mathlib.Core.Logic.{⊎_elim}
-use lib.Dec.{eqb, leb, ltb}
-use lib.ListN.{length, get_or, take, drop, drop_of_length-le, length-drop}
-use lib.Seq.{drop-cons, get_or-drop, take_all, take-nil}
-use borrow.Author.Tests.{eq-eqb, ne_eqb, leb-true, leb-false, ltb-true, ltb-false}
+use lib.Dec.{leb, ltb}
+use lib.ListN.{length, get_or, drop, drop_of_length-le, length-drop}
+use lib.Seq.{drop-cons, get_or-drop}
+use borrow.Author.Tests.{leb-true, leb-false, ltb-true, ltb-false}
 use Rattle.std.specs.List.{prefix_len}
 use Rattle.lists.proofs.Loops.{clash, two}
-use Rattle.text.proofs.Bytes.{and-false}
-use Rattle.text.specs.inner.Words.{breaks, commented, gap, word_length, next_word, bytes_of}
+use Rattle.text.specs.inner.Words.{breaks, commented, gap, word_length, next_word}
 use Rattle.text.specs.declared.word.Word.{Word}
 
 -- past the last byte there is no gap and no word
@@ -155,28 +154,3 @@ is_word text at =
 pub word-past : (text : List ℕ) (at : ℕ) → length text ≤ at → (next_word text at).first ≡ (next_word text at).end
 unfolding next_word
 word-past text at h = sym (run_past text (at + gap false (drop at text)) (omega arith))
-
--- ---- the bytes of a word, as far as the text has them
-
-pub bytes-none : (text : List ℕ) (w : Word) (end : ℕ) → end ≡ min w.end (length text) → end < w.first → [] ≡ bytes_of text w
-bytes-none text w end e h = ⊎_elim (λ t. short (leb-true _ _ t)) (λ t. past (leb-false _ _ t)) (two (leb w.end (length text)))
-  where
-    short : w.end ≤ length text → [] ≡ bytes_of text w
-    short l = let z : w.end - w.first ≡ 0 = omega arith in rw z
-
-    past : length text < w.end → [] ≡ bytes_of text w
-    past l =
-        let f : length text ≤ w.first = omega arith in
-        sym (ap (take (w.end - w.first)) (drop_of_length-le text f) ∙ take-nil (w.end - w.first))
-
-pub bytes-some : (text : List ℕ) (w : Word) (end : ℕ) → end ≡ min w.end (length text) → w.first ≤ end → take (end - w.first) (drop w.first text) ≡ bytes_of text w
-bytes-some text w end e h = ⊎_elim (λ t. short (leb-true _ _ t)) (λ t. past (leb-false _ _ t)) (two (leb w.end (length text)))
-  where
-    short : w.end ≤ length text → take (end - w.first) (drop w.first text) ≡ bytes_of text w
-    short l = let z : end - w.first ≡ w.end - w.first = omega arith in rw z
-
-    past : length text < w.end → take (end - w.first) (drop w.first text) ≡ bytes_of text w
-    past l =
-        let m : length (drop w.first text) ≤ end - w.first = omega (arith, length-drop w.first text) in
-        let n : length (drop w.first text) ≤ w.end - w.first = omega (arith, length-drop w.first text) in
-        take_all (end - w.first) (drop w.first text) m ∙ sym (take_all (w.end - w.first) (drop w.first text) n)

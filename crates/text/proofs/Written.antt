@@ -1,36 +1,30 @@
 -- A turn of each loop that writes, and its end. Assumes nothing.
-use Prim.Native.Nat.{ℕ, zero, suc, ◌+◌, ◌-◌, ◌/◌, ◌%◌, ◌^◌, ◌≤◌, ◌<◌, zero-le, suc-le-suc}
-use native.Mathlib.Nat.{le_refl, lt_irrefl, sub_self, sub-zero, mod-lt, add-zero, add-suc, suc-add, div-div-eq-div-mul, pow-suc, pow-zero, div-one}
-use native.Mathlib.Numerals.{add-one, sub-one}
+use Prim.Native.Nat.{ℕ, zero, suc, ◌+◌, ◌-◌, ◌/◌, ◌%◌, ◌^◌, ◌≤◌, ◌<◌, min, zero-le, suc-le-suc}
+use native.Mathlib.Nat.{le_refl, lt_irrefl, sub_self, sub-zero, div-div-eq-div-mul, pow-suc, pow-zero, div-one}
+use native.Mathlib.Numerals.{sub-one}
 use native.Mathlib.Omega.{arith}
 use mathlib.Core.Path.{◌≡◌, refl, sym, ap, ◌∙◌}
 use mathlib.Core.Bool.{Bool, true, false, cond}
-use mathlib.Core.List.{List, [], ◌∷◌}
+use mathlib.Core.List.{List, [], ◌∷◌, ◌++◌}
+use Rattle.std.proofs.Common.{append_assoc}
+use Rattle.std.specs.List.{prefix_len}
+use Rattle.std.proofs.lemmas.List.{drop-drop}
+use Rattle.std.proofs.lemmas.List.Edits.{sets-eq}
+use borrow.Rule.Slice.PartMut.{put_mid}
 use lib.Dec.{eqb}
-use lib.ListN.{length, get_or, take, drop, set, length-drop}
-use lib.Seq.{sets, drop-length, get_or-drop, take_all, take-suc, length-take-le, drop-cons, drop-set-lt, get_or-set_same, lt-length-set}
-use borrow.Author.Tests.{le-leb, lt-leb, eq-eqb, ne_eqb}
-use Rattle.journal.proofs.Stores.{sets-append, take_rest}
-use Rattle.text.specs.inner.Written.{glyph, last_digits, zeros, decimal, bytes_stored, place_behind}
+use lib.ListN.{length, take, drop, set}
+use lib.Seq.{drop-length, drop-cons, drop-set-lt, get_or-set_same, lt-length-set}
+use borrow.Author.Tests.{le-leb}
+use Rattle.journal.proofs.Stores.{take_rest}
+use Rattle.text.specs.inner.Written.{glyph, last_digits, zeros, decimal, bytes_stored}
 
 -- ---- bytes
 
-pub copied-turn : (out : List ℕ) (at : ℕ) (w : List ℕ) (k : ℕ) (l : List ℕ) → k < length w → l ≡ sets out at (take k w) → set l (at + k) (get_or w k 0) ≡ sets out at (take (k + 1) w)
-copied-turn out at w k l h e =
-    let n : length (take k w) ≡ k = length-take-le k w (omega arith) in
-    rw (e, add-one, take-suc w k 0 h, sets-append out at (take k w) (get_or w k 0 ∷ []), n)
-
-pub copied_all : (out : List ℕ) (at : ℕ) (w : List ℕ) (k : ℕ) (l : List ℕ) → length w ≤ k → l ≡ sets out at (take k w) → l ≡ sets out at w
-copied_all out at w k l h e = e ∙ ap (sets out at) (take_all k w h)
-
-module _ (out : List ℕ) (at : ℕ) (w : List ℕ) where
-  pub no_room : length out < at + length w → (18446744073709551615 ≡ place_behind out at w) × (out ≡ bytes_stored out at w)
-  unfolding place_behind bytes_stored
-  no_room h = rw (lt-leb (at + length w) (length out) h) (refl, refl)
-
-  pub room : at + length w ≤ length out → (at + length w ≡ place_behind out at w) × (sets out at w ≡ bytes_stored out at w)
-  unfolding place_behind bytes_stored
-  room h = rw (le-leb (at + length w) (length out) h) (refl, refl)
+pub copied : (out : List ℕ) (at : ℕ) (w part : List ℕ) → part ≡ w → at + length w ≤ length out → put_mid at (at + length w - at) out part ≡ bytes_stored out at w
+unfolding bytes_stored
+copied out at w part e h =
+    let n : at + length w - at ≡ length w = omega arith in
+    rw (e, n, le-leb (at + length w) (length out) h, sets-eq w out at h, append_assoc) (ap (λ r. take at out ++ (w ++ r)) (drop-drop (length w) at out))
 
 -- ---- digits
 
@@ -64,36 +58,22 @@ pub digits-done : (out : List ℕ) (base n m k : ℕ) → k ≤ 0 → drop k out
 digits-done out base n m zero h e = e ∙ ap (λ j. last_digits base j n) (sub-zero m)
 digits-done out base n m (suc k) h e = absurd (omega arith)
 
--- a digit is below 16
-pub digit-small : (base rest : ℕ) → 1 ≤ base → base ≤ 16 → rest % base < 16
-digit-small base rest h l = omega (arith, mod-lt rest h)
-
 -- ---- zeros
 
-zeros-short : (l : List ℕ) → length l ≤ 1 → zeros l ≡ 0
+-- those that stand in front, of which the last byte is none
+pub zeros-front : (l : List ℕ) → min (prefix_len (λ d. eqb d 48) l) (length l - 1) ≡ zeros l
 unfolding zeros
-zeros-short [] h = refl
-zeros-short (b ∷ []) h = refl
-zeros-short (b ∷ c ∷ l) h = absurd (omega arith)
+zeros-front [] = refl
+zeros-front (b ∷ []) = omega arith
+zeros-front (b ∷ c ∷ l) = go (eqb b 48) refl (zeros-front (c ∷ l))
+  where
+    go : (t : Bool) → eqb b 48 ≡ t → min (prefix_len (λ d. eqb d 48) (c ∷ l)) (length (c ∷ l) - 1) ≡ zeros (c ∷ l)
+        → min (prefix_len (λ d. eqb d 48) (b ∷ c ∷ l)) (length (b ∷ c ∷ l) - 1) ≡ cond t (suc (zeros (c ∷ l))) 0
+    go true e h = rw e (rw (← h) (omega arith))
+    go false e h = rw e (omega arith)
 
-zeros-other : (l : List ℕ) → (get_or l 0 0 ≡ 48 → ⊥) → zeros l ≡ 0
-unfolding zeros
-zeros-other [] h = refl
-zeros-other (b ∷ []) h = refl
-zeros-other (b ∷ c ∷ l) h = rw (ne_eqb b 48 h)
-
-pub zeros-past : (l : List ℕ) (k : ℕ) → length l ≤ k + 1 → k + zeros (drop k l) ≡ k
-zeros-past l k h = ap (λ z. k + z) (zeros-short (drop k l) (omega (arith, length-drop k l))) ∙ add-zero k
-
-pub zeros-stop : (l : List ℕ) (k : ℕ) → (get_or l k 0 ≡ 48 → ⊥) → k + zeros (drop k l) ≡ k
-zeros-stop l k e = ap (λ z. k + z) (zeros-other (drop k l) (λ h. e (ap (λ j. get_or l j 0) (sym (add-zero k)) ∙ sym (get_or-drop k l 0 0) ∙ h))) ∙ add-zero k
-
-pub zeros-turn : (l : List ℕ) (k : ℕ) → k + 1 < length l → get_or l k 0 ≡ 48 → k + zeros (drop k l) ≡ k + 1 + zeros (drop (k + 1) l)
-unfolding zeros
-zeros-turn l k h e =
-    let h' : k < length l = omega arith in
-    let h'' : suc k < length l = omega arith in
-    rw (add-one, drop-cons l k 0 h', drop-cons l (suc k) 0 h'', eq-eqb _ _ e, add-suc, suc-add)
+pub zeros-taken : (l : List ℕ) (n m k : ℕ) → n ≡ prefix_len (λ d. eqb d 48) l → m ≡ length l - 1 → k ≡ min n m → k ≡ zeros l
+zeros-taken l n m k e f g = g ∙ rw (e, f) (zeros-front l)
 
 pub zeros-le : (l : List ℕ) → zeros l ≤ length l
 unfolding zeros

@@ -63,6 +63,7 @@ fn taken_as<T: Copy>(c: Cursor, w: Word, read: Option<T>, none: T) -> Taken<T>
 }
 
 // The next word as a decimal number.
+#[tactic(auto, unfolding(crate::specs::inner::Cursor::take_number))]
 pub fn take_number(text: &[u8], c: Cursor) -> Taken<u32>
     ensures { result ≡ take_number text.now c }
 {
@@ -84,6 +85,7 @@ pub fn refuse(c: Cursor) -> Cursor
 }
 
 // The next word as a number up to `most`. A larger one counts as unreadable.
+#[tactic(auto, unfolding(crate::specs::inner::Cursor::take_count))]
 pub fn take_count(text: &[u8], c: Cursor, most: u32) -> Taken<u32>
     ensures { result ≡ take_count text.now most c }
 {
@@ -98,6 +100,7 @@ pub fn take_count(text: &[u8], c: Cursor, most: u32) -> Taken<u32>
 }
 
 // The next word as a word of eight hexadecimal digits.
+#[tactic(auto, unfolding(crate::specs::inner::Cursor::take_hex_word))]
 pub fn take_hex_word(text: &[u8], c: Cursor) -> Taken<u32>
     ensures { result ≡ take_hex_word text.now c }
 {
@@ -112,6 +115,7 @@ pub fn take_hex_word(text: &[u8], c: Cursor) -> Taken<u32>
 }
 
 // The next word as a float.
+#[tactic(auto, unfolding(crate::specs::inner::Cursor::take_float))]
 pub fn take_float(text: &[u8], c: Cursor) -> Taken<f64>
     ensures { result ≡ take_float text.now c }
 {
@@ -126,6 +130,7 @@ pub fn take_float(text: &[u8], c: Cursor) -> Taken<f64>
 }
 
 // The next word as what a line asks for. No word is unreadable here: the caller judges what is unknown.
+#[tactic(auto, unfolding(crate::specs::inner::Cursor::take_keyword))]
 pub fn take_keyword(text: &[u8], c: Cursor) -> Taken<Keyword>
     ensures { result ≡ take_keyword text.now c }
 {
@@ -143,6 +148,7 @@ pub fn take_keyword(text: &[u8], c: Cursor) -> Taken<Keyword>
 }
 
 // The next word as the name of a slice, as with keywords.
+#[tactic(auto, unfolding(crate::specs::inner::Cursor::take_slice))]
 pub fn take_slice(text: &[u8], c: Cursor) -> Taken<Slice>
     ensures { result ≡ take_slice text.now c }
 {
@@ -160,18 +166,25 @@ pub fn take_slice(text: &[u8], c: Cursor) -> Taken<Slice>
 }
 
 // Past the next word where it is the given one, and whether it is.
+#[tactic(auto, using(crate::proofs::Bytes::same_pointwise), unfolding(crate::specs::inner::Cursor::take_if))]
 pub fn take_if(text: &[u8], c: Cursor, word: &[u8]) -> Taken<bool>
     ensures { result ≡ take_if text.now word.now c }
 {
     let w = next_word(text, c.at);
-    let found = !c.bad && word_bytes(text, w) == word;
+    if c.bad || word_bytes(text, w) != word {
+        return Taken {
+            cursor: c,
+            value: false,
+        };
+    }
     Taken {
-        cursor: if found { pass(c, w, false) } else { c },
-        value: found,
+        cursor: pass(c, w, false),
+        value: true,
     }
 }
 
 // Whether no word is left.
+#[tactic(auto, unfolding(crate::specs::inner::Cursor::at_end))]
 pub fn at_end(text: &[u8], c: Cursor) -> bool
     ensures { result ≡ at_end text.now c }
 {

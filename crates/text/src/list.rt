@@ -25,6 +25,7 @@ fn entered<T: Copy>(taken: Taken<T>, i: usize, xs: &mut [T]) -> Cursor
 }
 
 // The next word as a number, into entry i.
+#[tactic(auto, unfolding(crate::specs::inner::Lists::number_into))]
 fn number_into(text: &[u8], c: Cursor, i: usize, numbers: &mut [u32]) -> Cursor
     ensures value { result ≡ (number_into text.now i c numbers.old).0 }
     ensures numbers_after { numbers.new ≡ (number_into text.now i c numbers.old).1 }
@@ -33,6 +34,7 @@ fn number_into(text: &[u8], c: Cursor, i: usize, numbers: &mut [u32]) -> Cursor
 }
 
 // The next word as a float, into entry i.
+#[tactic(auto, unfolding(crate::specs::inner::Lists::float_into))]
 fn float_into(text: &[u8], c: Cursor, i: usize, floats: &mut [f64]) -> Cursor
     ensures value { result ≡ (float_into text.now i c floats.old).0 }
     ensures floats_after { floats.new ≡ (float_into text.now i c floats.old).1 }

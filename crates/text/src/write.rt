@@ -9,6 +9,7 @@ use journal::float::bits_of;
 const NO_ROOM: usize = usize::MAX;
 
 // The bytes of a word.
+#[tactic(auto, unfolding(crate::specs::inner::Written::bytes_stored, crate::specs::inner::Written::place_behind))]
 pub fn put_bytes(out: &mut [u8], at: usize, word: &[u8]) -> usize
     ensures value { result ≡ place_behind out.old at word.now }
     ensures out_after { out.new ≡ bytes_stored out.old at word.now }
@@ -21,6 +22,7 @@ pub fn put_bytes(out: &mut [u8], at: usize, word: &[u8]) -> usize
     end
 }
 
+#[tactic(auto, unfolding(crate::specs::inner::Written::glyph))]
 fn glyph(d: u64) -> u8
     requires { d < 16 }
     ensures { result ≡ Written·glyph d }
@@ -37,8 +39,8 @@ fn fill_digits(out: &mut [u8], base: u64, n: u64)
     ensures { out.new ≡ last_digits base (length out.old) n }
 {
     let mut rest = n;
-    for digit in out.iter_mut().rev() {
-        *digit = glyph(rest % base);
+    for k in (0..out.len()).rev() {
+        out[k] = glyph(rest % base);
         rest /= base;
     }
 }

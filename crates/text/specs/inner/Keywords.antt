@@ -1,5 +1,5 @@
 -- The case language's words for lines and for slices.
-use Rattle.std.specs.Prelude.{ℕ, suc, cond, List, [], ◌∷◌}
+use Rattle.std.specs.Prelude.{ℕ, cond, List, [], ◌∷◌}
 use Rattle.text.specs.inner.Bytes.{bytes, same}
 use Rattle.text.specs.declared.keyword.Keyword.{Keyword}
 use Rattle.text.specs.declared.keyword.Slice.{Slice}
@@ -35,10 +35,3 @@ slices =
 
 unfoldable pub slice_of : List ℕ → Slice
 slice_of w = entry_for Slice.Unknown slices w
-
--- ---- the same by numbers
-
--- the number of the first name that is the word; how many names there are where none is
-unfoldable pub place_in : List (List ℕ) → List ℕ → ℕ
-place_in [] w = 0
-place_in (name ∷ names) w = cond (same w name) 0 (suc (place_in names w))

@@ -1,5 +1,5 @@
 -- `text::float::read_decimal` meets its contract.
-use Rattle.std.proofs.Common.{sym, arith}
+use Rattle.std.proofs.Common.{sym}
 use lib.Seq.{length-take-le}
 use Rattle.text.proofs.Floats.{behind-part, decimal-empty, decimal-pointed, decimal-long, decimal-front-bad, decimal-behind-bad, decimal-good}
 use Rattle.text.proofs.float.read_decimal.Goals.{then-p-eq0-via-then-p-eq0, then-p-eq0-via-else-p-eq0+then-p-word}

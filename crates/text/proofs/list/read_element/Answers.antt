@@ -2,8 +2,5 @@
 use Rattle.text.proofs.Lists.{element-stored}
 use Rattle.text.proofs.list.read_element.Goals as goal
 
-pub shape_of-lengths : goal.shape_of-lengths
-shape_of-lengths c = c.float_into-c1.auto.floats
-
 pub returns : goal.returns
 returns c = element-stored _ _ _ _ _ _ _ _ _ _ _ _ _ _ _ _ _ _ (c.float_into-c1.ensures.value, c.float_into-c1.ensures.floats_after) (c.float_into-c2.ensures.value, c.float_into-c2.ensures.floats_after) (c.float_into-c3.ensures.value, c.float_into-c3.ensures.floats_after) (c.float_into-c4.ensures.value, c.float_into-c4.ensures.floats_after) (c.float_into-c5.ensures.value, c.float_into-c5.ensures.floats_after) (c.number_into.ensures.value, c.number_into.ensures.numbers_after)

@@ -1,28 +1,15 @@
 -- `text::list::read_windows` meets its contract.
 use native.Mathlib.Omega.{arith}
-use mathlib.Core.Path.{refl, ◌∙◌}
 use Rattle.lists.proofs.Loops.{up_to-none, up_to-turn, up_to-done}
 use Rattle.text.specs.inner.Lists.{read_windows}
 use Rattle.text.proofs.list.read_windows.Goals as goal
 
 pub loop-k-init : goal.loop-k-init
-loop-k-init c = (omega arith, refl, refl, up_to-none _ _)
-
-pub overflow_step-k : goal.overflow_step-k
-overflow_step-k c = omega arith
-
-pub loop-k-smaller : goal.loop-k-smaller
-loop-k-smaller c = omega arith
+loop-k-init c = up_to-none _ _
 
 pub loop-k-preserved : goal.loop-k-preserved
-loop-k-preserved c = (omega arith, c.read_window-cursor.auto.firsts ∙ c.loop-k.invariant.1, c.read_window-cursor.auto.lasts ∙ c.loop-k.invariant.2, up_to-turn c.loop-k.k _ _ c.read_window-cursor.ensures c.loop-k.invariant.3)
-
-pub shape_of-firsts : goal.shape_of-firsts
-shape_of-firsts c = c.loop-k.invariant.1
-
-pub shape_of-lasts : goal.shape_of-lasts
-shape_of-lasts c = c.loop-k.invariant.2
+loop-k-preserved c = up_to-turn c.loop-k.k _ _ c.read_window-cursor.ensures c.loop-k.invariant
 
 pub returns : goal.returns
 unfolding read_windows
-returns c = up_to-done _ _ _ _ c.loop-k.invariant.3 (omega arith)
+returns c = up_to-done _ _ _ _ c.loop-k.invariant (omega arith)

@@ -1,7 +1,5 @@
 -- `text::word::skip_gap` meets its contract.
-use mathlib.Core.Path.{sym, ap, ◌∙◌}
-use mathlib.Core.Bool.{◌||◌}
-use Rattle.text.specs.inner.Words.{breaks}
+use mathlib.Core.Path.{sym, ◌∙◌}
 use Rattle.text.proofs.Words.{gap-stop, gap-turn, gap-end}
 use Rattle.text.proofs.word.skip_gap.Goals.{else-not-comment-via-then-not-comment+else-not-breaks, else-not-comment-via-else-not-comment}
 use Rattle.text.proofs.word.skip_gap.Goals as goal

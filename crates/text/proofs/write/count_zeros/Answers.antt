@@ -1,21 +1,16 @@
 -- `text::write::count_zeros` meets its contract.
-use native.Mathlib.Omega.{arith}
-use native.Mathlib.Nat.{zero-add}
-use mathlib.Core.Path.{sym, ◌∙◌}
-use Rattle.text.proofs.Written.{zeros-past, zeros-stop, zeros-turn}
+use Rattle.std.proofs.Common.{eqb, ◌∙◌, rules, tests}
+use Rattle.std.proofs.lemmas.Iterator.{YieldsList-from_slice}
+use Rattle.std.proofs.lemmas.Iterator.Consumers.{count_from_yields_List}
+use Rattle.std.proofs.lemmas.Iterator.Search.{YieldsList-from_take_while}
+use Rattle.std.proofs.lemmas.List.Folds.{length-prefix_len}
+use Rattle.text.proofs.Written.{zeros-taken}
 use Rattle.text.proofs.write.count_zeros.Goals as goal
 
-pub loop-k-init : goal.loop-k-init
-loop-k-init c = (omega arith, sym (zero-add _))
-
-pub overflow_add-k : goal.overflow_add-k
-overflow_add-k c = omega arith
-
-pub returns-then-digits-k-ne48 : goal.returns-then-digits-k-ne48
-returns-then-digits-k-ne48 c = sym (c.loop-k.invariant.1 ∙ zeros-stop _ _ c.if-digits-k-ne48.true)
-
-pub loop-k-preserved : goal.loop-k-preserved
-loop-k-preserved c = (omega arith, c.loop-k.invariant.1 ∙ zeros-turn _ _ c.loop-k-test.true c.if-digits-k-ne48.false)
-
 pub returns : goal.returns
-returns c = sym (c.loop-k.invariant.1 ∙ zeros-past _ _ (omega arith))
+returns c =
+    let n =
+    count_from_yields_List c.take_while.result _ c.count-zeros.ensures.ran
+    (YieldsList-from_take_while _ (λ d. eqb d 48) (YieldsList-from_slice c.args.digits.now cc) c.take_while.ensures.closure c.take_while.ensures.done (λ x b q k. search (rules, tests)))
+    ∙ length-prefix_len (λ d. eqb d 48) c.args.digits.now in
+    zeros-taken _ _ _ _ n c.saturating_sub.ensures c.min.ensures
