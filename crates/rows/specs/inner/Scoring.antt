@@ -1,19 +1,19 @@
 -- The row of a fix as the code comes by it: the predecessor is read from its record, and parents and scores go into two slices.
 use Rattle.std.specs.Prelude.{ℕ, zero, suc, ◌+◌, ◌*◌, ◌<◌, ◌≤◌, ◌≡◌, Bool, true, cond, List, length, get_or, drop, Float, Option, Some, None}
 use Rattle.std.proofs.Math.Option.{Option as Maybe, none, some}
-use Rattle.std.specs.Float.{nan}
+use Rattle.std.specs.Option.{unwrap_or}
+use Rattle.std.specs.Float.{nan, inf}
 use Rattle.std.specs.Float.Ieee.{lt, le}
 use Rattle.lists.specs.Loops.{any_below}
 use Rattle.binary64.specs.Operators.{◌⊕◌}
 use Rattle.network.specs.Graph.{element_count}
 use Rattle.transition.specs.Track.{Track}
-use Rattle.journal.specs.Row.{Fix, Row, candidate_count, candidate_of, row_size, cell_of, score_of, before_of}
+use Rattle.journal.specs.Row.{Fix, Row, no_parent, candidate_count, candidate_of, row_size, cell_of, score_of, before_of}
 use Rattle.journal.specs.Record.{first_cell, read_row}
 use Rattle.journal.specs.declared.record.Candidate.{Candidate}
 use Rattle.transition.specs.inner.Track.{TrackFits}
 use Rattle.rows.specs.Row.{StepScore, Scored, first_best, break_score, floored_log, floored, sum_through, is_possible, offer, scored}
 use Rattle.rows.specs.declared.previous.Previous.{Previous}
-use Rattle.rows.specs.declared.offers.Offers.{Offers}
 
 -- ---- the predecessor in its record, at the head of the words
 
@@ -42,6 +42,10 @@ predecessor_in words (suc p) = some (read_row words)
 abbrev pub previous_of : Scored → Previous
 previous_of f = record { candidate = f.0; score = f.1 }
 
+-- no candidate, and minus infinity
+unfoldable pub no_previous : Previous
+no_previous = record { candidate = no_parent; score = inf true }
+
 -- the best so far and candidate j with its score: the later of equals
 unfoldable pub later_best : Previous → ℕ → Float → Previous
 later_best b j s = cond (le b.score s) (record { candidate = j; score = s }) b
@@ -53,13 +57,15 @@ unfoldable pub offer_to : StepScore → Row → Candidate → Float → ℕ → 
 offer_to step p b distance j = sum_through (score_of p j) (step (cell_of p j).candidate b distance) (floored b)
 
 -- the best so far and the offer of candidate j: the first of equals
-unfoldable pub better_offer : Offers → ℕ → Option Float → Offers
+unfoldable pub better_offer : Option Previous → ℕ → Option Float → Option Previous
 better_offer b j None = b
-better_offer b j (Some v) = cond (lt b.score v) (record { parent = j; score = v; possible = true }) (record { parent = b.parent; score = b.score; possible = true })
+better_offer b j (Some v) =
+    let so_far = unwrap_or b no_previous in
+    Some (cond (lt so_far.score v) (record { candidate = j; score = v }) so_far)
 
--- the best of n offers, and whether one is possible
-unfoldable pub best_offer : (ℕ → Option Float) → ℕ → Offers
-best_offer g n = record { parent = (first_best g n).0; score = (first_best g n).1; possible = any_below n (λ j. is_possible (g j)) }
+-- the best of n offers, or none where none is possible
+unfoldable pub best_offer : (ℕ → Option Float) → ℕ → Option Previous
+best_offer g n = cond (any_below n (λ j. is_possible (g j))) (Some (previous_of (first_best g n))) None
 
 -- ---- a broken row
 

@@ -1,7 +1,7 @@
 -- The sides of candidates as nodes, two for each, and a table of the routes between them.
 use Rattle.std.specs.Prelude.{ℕ, ◌+◌, ◌*◌, ◌<◌, ◌≡◌, Bool, true, not, ◌&&◌, ◌||◌, List, eqb, length, get_or, set, replicate, Float}
 use Rattle.std.specs.Float.Ieee.Scale.{finite}
-use Rattle.lists.specs.Loops.{any_below}
+use Rattle.std.specs.List.{list_any}
 use Rattle.network.specs.Graph.{Graph, node}
 use Rattle.routing.specs.Route.{route}
 use Rattle.journal.specs.Row.{Row, no_candidate, cell_of, score_of}
@@ -25,7 +25,7 @@ pub record SideNodes (n : ℕ) (asks : ℕ → Bool) (element : ℕ → ℕ) (no
 -- ---- from which candidates of the predecessor routes can matter
 
 unfoldable pub any_near : List Candidate → Bool
-any_near cs = any_below (length cs) (λ i. not (eqb (get_or cs i no_candidate).near 0))
+any_near cs = list_any (λ c. not (eqb c.near 0)) cs
 
 -- from those of a finite score that are near, and from all of a finite score if an own candidate is near
 unfoldable pub asks_from : Row → Bool → ℕ → Bool

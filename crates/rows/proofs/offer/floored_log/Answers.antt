@@ -6,6 +6,6 @@ pub returns-then-raw_log : goal.returns-then-raw_log
 unfolding of_bits
 returns-then-raw_log c = rw c.if-raw_log.true
 
-pub returns : goal.returns
+pub returns-else-raw_log : goal.returns-else-raw_log
 unfolding of_bits
-returns c = rw c.if-raw_log.false
+returns-else-raw_log c = rw c.if-raw_log.false

@@ -1,17 +1,14 @@
 -- `rows::offers::best_offer` meets its contract.
-use mathlib.Core.Path.{◌∙◌}
+use mathlib.Core.Path.{◌≡◌, ◌∙◌}
 use Prim.Native.Nat.{◌<◌}
 use native.Mathlib.Omega.{arith}
-use Rattle.rows.proofs.Best.{offers-none, offers-turn, offers-done}
+use Rattle.rows.proofs.Best.{offers-none, offers-turn}
 use Rattle.rows.proofs.Records.{size-narrow, stands_at}
 use Rattle.rows.proofs.Through.{pair_inside, pair_held, columns-fit}
 use Rattle.rows.proofs.offers.best_offer.Goals as goal
 
-pub minus_infinity-requires : goal.minus_infinity-requires
-minus_infinity-requires c = tt
-
 pub loop-j-init : goal.loop-j-init
-loop-j-init c = (omega arith, offers-none _ _ c.minus_infinity.ensures)
+loop-j-init c = offers-none _
 
 pub overflow_mul-count : goal.overflow_mul-count
 overflow_mul-count c = omega (arith, columns-fit c.args.count c.args.before _ (omega (arith, c.loop-j-test.true)) c.requires.count_in_bounds)
@@ -33,22 +30,11 @@ offer_of-next-requires c =
     }
 
 pub overflow_cast-j : goal.overflow_cast-j
-overflow_cast-j c = omega (arith, c.loop-j-test.true, c.requires.record_known.stands.many, size-narrow c.args.words.now)
-
-pub better_offer-best-requires : goal.better_offer-best-requires
-better_offer-best-requires c = tt
-
-pub overflow_step-j : goal.overflow_step-j
-overflow_step-j c = omega (arith, c.loop-j-test.true, c.ranges.before)
-
-pub loop-j-smaller : goal.loop-j-smaller
-loop-j-smaller c = omega (arith, c.loop-j-test.true)
+overflow_cast-j c = omega (arith, c.requires.record_known.stands.many, size-narrow c.args.words.now)
 
 pub loop-j-preserved : goal.loop-j-preserved
-loop-j-preserved c = (
-  omega (arith, c.loop-j-test.true),
-  offers-turn _ _ c.loop-j.invariant.1 (c.offer_of-next.ensures ∙ rw (c.distance_of-distance.ensures, c.routes_at-routes.ensures)) c.better_offer-best.ensures,
-)
+loop-j-preserved c =
+    offers-turn _ _ c.loop-j.invariant (c.offer_of-next.ensures ∙ rw (c.distance_of-distance.ensures, c.routes_at-routes.ensures)) c.better_offer-best.ensures
 
 pub returns : goal.returns
-returns c = offers-done _ _ _ c.loop-j.invariant.1 (omega arith)
+returns c = let all : c.loop-j.j ≡ c.args.before = omega arith in rw (← all) c.loop-j.invariant

@@ -1,6 +1,4 @@
 -- What the loop of `rows::row::first_row` keeps.
-use mathlib.Core.Path.{◌≡◌}
-use Prim.Native.Nat.{◌≤◌, ◌-◌}
 use lib.ListN.{get_or}
 use Rattle.rows.specs.inner.Scoring.{Filled}
 use Rattle.journal.specs.Row.{no_parent, no_candidate}
@@ -8,7 +6,4 @@ use Rattle.journal.specs.inner.Fix.{candidates_in}
 use Rattle.rows.proofs.row.first_row.Given as goal
 
 abbrev pub invariant-loop-i : goal.invariant-loop-i
-invariant-loop-i l = (l.i-end ≡ l.fix.count) × (l.i ≤ l.i-end) × Filled l.i (λ k. (no_parent, (get_or (candidates_in l.fix) k no_candidate).raw_log)) l.initial.parents l.initial.scores l.parents l.scores
-
-abbrev pub decreases-loop-i : goal.decreases-loop-i
-decreases-loop-i l = l.i-end - l.i
+invariant-loop-i l = Filled l.i (λ k. (no_parent, (get_or (candidates_in l.fix) k no_candidate).raw_log)) l.initial.parents l.initial.scores l.parents l.scores
