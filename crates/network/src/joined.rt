@@ -64,10 +64,6 @@ pub fn are_joined(net: &Network<'_>, minute: u32, sources: Nodes, targets: Nodes
     ensures { result ≡ joined (links_of (length net.now.lengths) (relations_at net.now.windows minute net.now.relations)) sources targets }
 {
     let elements = net.lengths.len();
-    for k in 0..net.relations.from.len() {
-        if relation_leads(elements, sources, targets, relation_at(net, minute, k)) {
-            return true;
-        }
-    }
-    false
+    (0..net.relations.from.len())
+        .any(|k| relation_leads(elements, sources, targets, relation_at(net, minute, k)))
 }

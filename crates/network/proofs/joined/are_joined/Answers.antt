@@ -1,20 +1,18 @@
 -- `network::joined::are_joined` meets its contract.
-use Rattle.std.proofs.Common.{rules, ◌∙◌}
-use Rattle.lists.proofs.Loops.{any_none, any-turn, any-done, any-stop}
-use Rattle.network.specs.Graph.{relations_at}
+use Rattle.std.proofs.Common.{rules, arith, ℕ, length, ◌∙◌}
+use Rattle.std.proofs.lemmas.Iterator.{YieldsList-from_range}
+use Rattle.std.proofs.lemmas.Iterator.Search.{any_from_yields_List}
+use Rattle.lists.proofs.Loops.{any-number}
+use Rattle.network.specs.Graph.{relation_at, relations_at}
+use Rattle.network.specs.inner.Nodes.{relation_leads}
 use Rattle.network.proofs.Joining.{joined-relations}
 use Rattle.network.proofs.joined.are_joined.Goals as goal
 
-pub loop-k-init : goal.loop-k-init
-loop-k-init c = any_none _
-
-pub returns-then-relation_leads : goal.returns-then-relation_leads
-unfolding relations_at
-returns-then-relation_leads c = any-stop c.loop-k.k _ _ (search rules) (search rules) ∙ joined-relations _ _ _ _
-
-pub loop-k-preserved : goal.loop-k-preserved
-loop-k-preserved c = any-turn _ _ c.loop-k.invariant (search rules)
-
 pub returns : goal.returns
 unfolding relations_at
-returns c = any-done _ _ _ c.loop-k.invariant (search rules) ∙ joined-relations _ _ _ _
+returns c =
+    let net = c.args.net.now in
+    let n = length net.relations.from in
+    let leads = λ (k : ℕ). relation_leads (length net.lengths) c.args.sources c.args.targets (relation_at (relations_at net.windows c.args.minute net.relations) k) in
+    any_from_yields_List leads _ _ _ c.any.ensures.ran (YieldsList-from_range 0 n n (search rules) (omega arith)) (λ k b q called. (search rules, search rules))
+    ∙ any-number leads n ∙ joined-relations _ _ _ _
