@@ -30,11 +30,6 @@ mul-whole f (fin true m e) (fin false n d) a b p q =
     round_same f true (m * up e * (n * up d)) (down e * down d) (a * b) 1 (mul-pos (down_pos e) (down_pos d)) (zero-lt-suc 0)
     (product (m * up e) (down e) (n * up d) (down d) a b p.1 q.1)
 
--- a whole number up to 2^17 is a float
-pub small-fits : (n : ℕ) → n ≤ 131072 → T (in_float binary64 (pos n))
-unfolding in_float
-small-fits n h = le→leb n 9007199254740992 (omega arith)
-
 -- -10^13 * (r + 1), as it is worked out
 pub lowest-product : (r : ℕ) → r ≤ 65535 → mul binary64 (neg (of_bits binary64 4801453603149578240)) (of_int binary64 (pos (r + 1))) ≡ lowest_score r
 unfolding lowest_score

@@ -16,8 +16,9 @@ use Rattle.journal.specs.Row.{Cell, Row, no_cell, row_size, cell_of, score_of, s
 use Rattle.journal.specs.Ranges.{candidate_limit}
 use Rattle.journal.specs.Record.{first_cell, record_length, record_of, float_at, read_cell, read_distance, head_count, head_before, read_minute, read_row}
 use Rattle.journal.specs.Journal.{row_ok}
-use Rattle.journal.specs.inner.Check.{well_read, body_reads, whole_record, record_at}
+use Rattle.journal.specs.inner.Check.{candidates_of, place_of, well_read, body_reads, whole_record, record_at}
 use Rattle.journal.specs.declared.read.Record.{Record}
+use Rattle.journal.specs.declared.check.Survey.{Survey}
 use Rattle.journal.proofs.Reading.{length-record}
 use Rattle.journal.proofs.Tests.{drop-float}
 use Rattle.journal.proofs.Records.{length-each, get_or-each, row_at, row_is, size_is, number_is, record-test}
@@ -62,9 +63,9 @@ row-distance ws d k h =
 
 -- ---- what the row reader finds
 
-pub record-none : (place since q n : ℕ) (ws : List ℕ) → length ws ≡ 0 → record_at place since q n ws ≡ None
-record-none place since q n [] e = unfold record_at well_read record_of in refl
-record-none place since q n (w ∷ ws) e = absurd (omega arith)
+pub record-none : (v : Survey) (ws : List ℕ) → length ws ≡ 0 → record_at v ws ≡ None
+record-none v [] e = unfold record_at well_read record_of in refl
+record-none v (w ∷ ws) e = absurd (omega arith)
 
 -- its scores
 scores-at : (w : ℕ) (body : List ℕ) → scores (row_at w body) ≡ any_below (head_count w) (λ k. finite (float_at (w ∷ body) (first_cell + 7 * k + 5)))
@@ -86,18 +87,20 @@ found_at : (place w : ℕ) (body : List ℕ) → whole_record (length (record_of
 found_at place w body = cc (length_at place w body, size_is w body, scores-at w body)
 
 -- test by test
-pub record-at : (place since q n : ℕ) (ws : List ℕ) → 0 < length ws
-    → record_at place since q n ws
+pub record-at : (v : Survey) (ws : List ℕ) → 0 < length ws
+    → record_at v ws
     ≡ cond (eqb (get_or ws 0 0 / 1024) 262144
     && (leb (head_count (get_or ws 0 0)) candidate_limit
-    && (eqb (head_before (get_or ws 0 0)) (before_of q (head_count (get_or ws 0 0)))
+    && (eqb (head_before (get_or ws 0 0)) (before_of (candidates_of v.latest) (head_count (get_or ws 0 0)))
     && (leb (record_length (head_count (get_or ws 0 0)) (head_before (get_or ws 0 0))) (length ws)
-    && body_reads place since (head_count (get_or ws 0 0)) (head_before (get_or ws 0 0)) n ws))))
+    && body_reads (place_of v.latest) v.minute (head_count (get_or ws 0 0)) (head_before (get_or ws 0 0)) v.rows ws))))
     (found (head_count (get_or ws 0 0)) (head_before (get_or ws 0 0)) ws)
     None
 unfolding record_at
-record-at place since q n [] h = absurd (omega arith)
-record-at place since q n (w ∷ body) h =
-    let ok = well_read (record_of place) read_row (row_ok since q n) (w ∷ body) in
+record-at v [] h = absurd (omega arith)
+record-at v (w ∷ body) h =
+    let place = place_of v.latest in
+    let q = candidates_of v.latest in
+    let ok = well_read (record_of place) read_row (row_ok v.minute q v.rows) (w ∷ body) in
     ap (λ (x : Row). cond ok (whole_record (length (record_of place x)) (row_size x) (scores x) x.minute) None) (row_is w body)
-    ∙ cc (found_at place w body, record-test place since q n w body)
+    ∙ cc (found_at place w body, record-test place v.minute q v.rows w body)

@@ -18,7 +18,7 @@ use Rattle.journal.specs.Row.{Row, row_size, scores, predecessor, size_of, lates
 use Rattle.journal.specs.Ranges.{candidate_limit, row_limit}
 use Rattle.journal.specs.Record.{used_word, read_row}
 use Rattle.journal.specs.Journal.{words, predecessor_place, record_on, row_ok, record_ok, read_rows, used, used_words, read_journal}
-use Rattle.journal.specs.inner.Check.{well_read, whole_record, record_at, predecessor_at, latest_of, candidates_of, place_of, not_well_formed, survey_of, survey}
+use Rattle.journal.specs.inner.Check.{well_read, whole_record, record_at, predecessor_at, latest_of, candidates_of, place_of, Followed, not_well_formed, survey_of, survey}
 use Rattle.journal.specs.declared.read.Record.{Record}
 use Rattle.journal.specs.declared.check.Predecessor.{Predecessor}
 use Rattle.journal.specs.declared.check.Survey.{Survey}
@@ -92,9 +92,14 @@ module _ (rs : List Row) (ws : List ℕ) where
   abbrev passes : Bool
   passes = record_ok rs (read_row ws) ws
 
-  is_ok : record_at (predecessor_place rs) (latest_minute rs) (size_of (predecessor rs)) (length rs) ws ≡ cond passes (whole_record (length (record_on rs (read_row ws))) (row_size (read_row ws)) (scores (read_row ws)) (read_row ws).minute) None
+  -- the record of what is read, if it is one
+  abbrev reading : RustOption Record
+  reading = cond passes (whole_record (length (record_on rs (read_row ws))) (row_size (read_row ws)) (scores (read_row ws)) (read_row ws).minute) None
+
+  -- which is what the row reader finds after these rows
+  is-reading : (used : ℕ) → record_at (record { rows = length rs; used = used; latest = latest_of rs; minute = latest_minute rs }) ws ≡ reading
   unfolding record_at well_read
-  is_ok = refl
+  is-reading used = rw (latest-size rs, latest-place rs)
 
   -- what a whole record is
   pub record Found (r : Record) : Type 0 where
@@ -104,8 +109,8 @@ module _ (rs : List Row) (ws : List ℕ) where
     pub minute : r.minute ≡ (read_row ws).minute
     pub ok : T (record_ok rs (read_row ws) ws)
 
-  found : (r : Record) → record_at (predecessor_place rs) (latest_minute rs) (size_of (predecessor rs)) (length rs) ws ≡ Some r → Found r
-  found r e = go passes refl (sym is_ok ∙ e)
+  found : (r : Record) → reading ≡ Some r → Found r
+  found r e = go passes refl e
     where
       go : (b : Bool) → passes ≡ b → cond b (whole_record (length (record_on rs (read_row ws))) (row_size (read_row ws)) (scores (read_row ws)) (read_row ws).minute) None ≡ Some r → Found r
       go true q k =
@@ -113,8 +118,8 @@ module _ (rs : List Row) (ws : List ℕ) where
           record { long = ap (λ (x : Record). x.length) same; many = ap (λ (x : Record). x.candidates) same; score = ap (λ (x : Record). x.scores) same; minute = ap (λ (x : Record). x.minute) same; ok = taken q }
       go false q k = absurd (none-some _ k)
 
-  bad : record_at (predecessor_place rs) (latest_minute rs) (size_of (predecessor rs)) (length rs) ws ≡ None → record_ok rs (read_row ws) ws ≡ false
-  bad e = go passes refl (sym is_ok ∙ e)
+  bad : reading ≡ None → record_ok rs (read_row ws) ws ≡ false
+  bad e = go passes refl e
     where
       go : (b : Bool) → passes ≡ b → cond b (whole_record (length (record_on rs (read_row ws))) (row_size (read_row ws)) (scores (read_row ws)) (read_row ws).minute) None ≡ None → passes ≡ false
       go true q k = absurd (none-some _ (sym k))
@@ -135,10 +140,9 @@ module _ (rs : List Row) (ws : List ℕ) where
 -- ---- the walk
 
 -- the row reader is lent `&journal[at..]`
-pub record-asked : (journal : List ℕ) (v : Survey) {place q : ℕ} {answer : RustOption Record} → place ≡ place_of v.latest → q ≡ candidates_of v.latest
-    → answer ≡ record_at place v.minute q v.rows (take (length journal - v.used) (drop v.used journal))
-    → record_at (place_of v.latest) v.minute (candidates_of v.latest) v.rows (drop v.used journal) ≡ answer
-record-asked journal v e f h = rw (h, e, f, take_rest v.used journal)
+pub record-asked : (journal : List ℕ) (v : Survey) {answer : RustOption Record} → answer ≡ record_at v (take (length journal - v.used) (drop v.used journal))
+    → record_at v (drop v.used journal) ≡ answer
+record-asked journal v h = rw (h, take_rest v.used journal)
 
 -- at a place of the used words, with so many rows read, a predecessor of a further one, and the minute of the last
 pub record Walked (journal : List ℕ) (v : Survey) : Type 0 where
@@ -169,25 +173,20 @@ module _ (journal : List ℕ) (v : Survey) (w : Walked journal v) where
   abbrev rest : List ℕ
   rest = drop v.used journal
 
-  -- what the row reader finds next
-  abbrev next : RustOption Record
-  next = record_at (place_of v.latest) v.minute (candidates_of v.latest) v.rows rest
-
   -- what is found of the whole journal
   abbrev whole : Result Survey Refusal
   whole = survey_of (length journal) (read_rows row_limit [] (drop 1 journal))
 
-  -- as the row reader is asked
-  asked : next ≡ record_at (predecessor_place w.standing) (latest_minute w.standing) (size_of (predecessor w.standing)) (length w.standing) rest
+  asked : record_at v rest ≡ reading w.standing rest
   asked =
-      ap (λ (x : RustOption Predecessor). record_at (place_of x) v.minute (candidates_of x) v.rows rest) (sym w.last)
-      ∙ rw (latest-size w.standing, latest-place w.standing, ← w.counted, ← w.minute)
+      let same : v ≡ record { rows = length w.standing; used = v.used; latest = latest_of w.standing; minute = latest_minute w.standing } = rw (w.counted, w.last, w.minute) in
+      ap (λ (x : Survey). record_at x rest) same ∙ is-reading w.standing rest v.used
 
-  -- a place that a word of kind 7 has bits for, where the journal's length has
-  pub walked-place : length journal < 268435456 → place_of v.latest < 268435456
-  walked-place h =
+  -- a word of kind 7 has bits for the predecessor's place, where one of kind 5 has for the journal's length
+  pub walked-followed : length journal < 268435456 → Followed v
+  walked-followed h =
       let same : predecessor_place w.standing ≡ place_of v.latest = sym (latest-place w.standing) ∙ ap place_of w.last in
-      omega (arith, place_inside w.standing, w.placed, w.inside)
+      record { few = w.size; number = omega (arith, w.few); place = omega (arith, place_inside w.standing, w.placed, w.inside) }
 
   module _ (here : v.used < length journal) where
     some_left : 0 < length rest
@@ -208,7 +207,7 @@ module _ (journal : List ℕ) (v : Survey) (w : Walked journal v) where
       one_more = omega (arith, w.few)
 
       -- no record
-      pub walked-bad : next ≡ None → not_well_formed ≡ whole
+      pub walked-bad : record_at v rest ≡ None → not_well_formed ≡ whole
       walked-bad e =
           ap (survey_of (length journal))
           (sym (sym w.left ∙ ap (λ (n : ℕ). read_rows n w.standing rest) one_more ∙ broken (row_limit - (v.rows + 1)) w.standing rest some_left (bad w.standing rest (sym asked ∙ e))))
@@ -218,7 +217,7 @@ module _ (journal : List ℕ) (v : Survey) (w : Walked journal v) where
           broken n rs (x ∷ ws) h q = unfold read_rows in rw q
 
       -- a record: its length, and the walk past it
-      module _ (r : Record) (e : next ≡ Some r) where
+      module _ (r : Record) (e : record_at v rest ≡ Some r) where
         one_found : Found w.standing rest r
         one_found = found w.standing rest r (sym asked ∙ e)
 

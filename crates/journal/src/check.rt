@@ -53,13 +53,7 @@ pub fn walk(journal: &[u32]) -> Result<Survey, Refusal>
         if survey.rows == 65535 {
             return Err(Refusal::Journal);
         }
-        let Some(record) = read_row(
-            &journal[survey.used..],
-            place_of(survey.latest),
-            survey.minute,
-            candidates_of(survey.latest),
-            survey.rows,
-        ) else {
+        let Some(record) = read_row(&journal[survey.used..], survey) else {
             return Err(Refusal::Journal);
         };
         let latest = if record.scores {

@@ -31,8 +31,8 @@ pub fn raw_log_reads(words: &[u32], at: usize) -> bool
 }
 
 // A score above -(2 ^ 43), which is in range in every row.
-pub fn score_reads(words: &[u32], at: usize, row: usize) -> bool
-    requires { (at + 1 < length words.now) × (row < 65536) }
+pub fn score_reads(words: &[u32], at: usize, row: u16) -> bool
+    requires { at + 1 < length words.now }
     ensures { result ≡ score_ok row (float_at words.now at) }
 {
     is_above(words[at], 0xc2a0_0000) || score_ok(float_at(words, at), row)

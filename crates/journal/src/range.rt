@@ -30,15 +30,13 @@ pub fn candidate_ok(c: Candidate, known: u32) -> bool
 }
 
 // The lowest score of a row.
-fn lowest_score(row: usize) -> f64
-    requires { row < 65536 }
+fn lowest_score(row: u16) -> f64
     ensures { result ≡ lowest_score row }
 {
-    -10000000000000.0 * ((row + 1) as f64)
+    -10000000000000.0 * ((row as u32 + 1) as f64)
 }
 
-pub fn score_ok(x: f64, row: usize) -> bool
-    requires { row < 65536 }
+pub fn score_ok(x: f64, row: u16) -> bool
     ensures { result ≡ score_ok row x }
 {
     binary64::is_minus_infinity(x) || binary64::in_range(x, lowest_score(row), 0.0)

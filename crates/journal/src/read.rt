@@ -3,10 +3,11 @@ ghost use Rattle.std.specs.Prelude.{◌≡◌, ◌+◌, ◌*◌, ◌<◌, ◌≤
 ghost use Rattle.std.specs.Float.Ieee.Scale.{finite};
 ghost use Rattle.lists.specs.Loops.{any_below, every_below};
 ghost use Rattle.journal.specs.Row.{before_of};
-ghost use Rattle.journal.specs.Ranges.{candidate_limit, distance_ok, cell_ok};
+ghost use Rattle.journal.specs.Ranges.{distance_ok, cell_ok};
 ghost use Rattle.journal.specs.Record.{first_cell, cell_words, float_words, float_at, read_cell, read_distance, read_row, record_length};
-ghost use Rattle.journal.specs.inner.Check.{well_read, minute_reads, body_reads, record_at};
+ghost use Rattle.journal.specs.inner.Check.{well_read, minute_reads, body_reads, place_of, Followed, record_at};
 
+use crate::check::{Survey, candidates_of, place_of};
 use crate::float::float_at;
 use crate::halves::{finite_reads, greatest_half, intrinsic_reads, raw_log_reads, score_reads};
 use crate::lengths::record_length;
@@ -52,8 +53,8 @@ pub fn candidate_at(words: &[u32], at: usize) -> Candidate
 }
 
 // Whether the words at `at` are a candidate's in this row, with p predecessor candidates.
-fn cell_reads(words: &[u32], at: usize, p: u32, row: usize) -> bool
-    requires { (at + 7 ≤ length words.now) × (row < 65536) }
+fn cell_reads(words: &[u32], at: usize, p: u32, row: u16) -> bool
+    requires { at + 7 ≤ length words.now }
     ensures { result ≡ well_read cell_words read_cell (cell_ok p row) (drop at words.now) }
 {
     let w = words[at];
@@ -65,8 +66,8 @@ fn cell_reads(words: &[u32], at: usize, p: u32, row: usize) -> bool
 }
 
 // Whether those of c candidates are.
-fn cells_read(words: &[u32], c: usize, p: u32, row: usize) -> bool
-    requires { (first_cell + 7 * c ≤ length words.now) × (row < 65536) }
+fn cells_read(words: &[u32], c: usize, p: u32, row: u16) -> bool
+    requires { first_cell + 7 * c ≤ length words.now }
     ensures { result ≡ every_below c (λ k. well_read cell_words read_cell (cell_ok p row) (drop (first_cell + 7 * k) words.now)) }
 {
     for k in 0..c {
@@ -126,37 +127,29 @@ pub fn before_of(q: usize, c: usize) -> usize
     if c == 0 { 0 } else { q }
 }
 
-// Whether what follows the head word of c candidates with p predecessor candidates is a record's, which ends at `end`, with the predecessor's at
-// `place`, not before the minute `since`.
+// Whether what follows the head word of c candidates with p predecessor candidates is that of the record of the row after those surveyed, which
+// ends at `end`: it names the predecessor's place, and its minute is not before theirs.
 #[tactic(auto, unfolding(crate::specs::Record::record_length, crate::specs::inner::Check::body_reads))]
-fn body_reads(
-    words: &[u32],
-    place: usize,
-    since: u32,
-    c: usize,
-    p: usize,
-    end: usize,
-    row: usize,
-) -> bool
-    requires c_bound { (c < 32) × (p < 32) × (row < 65536) × (place < 268435456) }
+fn body_reads(words: &[u32], survey: Survey, c: usize, p: usize, end: usize) -> bool
+    requires c_bound { (c < 32) × (p < 32) }
+    requires after { Followed survey }
     requires end_value { (end ≡ record_length c p) × (end ≤ length words.now) }
-    ensures { result ≡ body_reads place since c p row words.now }
+    ensures { result ≡ body_reads (place_of survey.latest) survey.minute c p survey.rows words.now }
 {
     let n = distance_count(c, p);
     let at = FIRST_CELL + 7 * c;
-    words[1] == 0x7000_0000 + place as u32
-        && minute_reads(words[2], since)
-        && cells_read(words, c, p as u32, row)
+    words[1] == 0x7000_0000 + place_of(survey.latest) as u32
+        && minute_reads(words[2], survey.minute)
+        && cells_read(words, c, p as u32, survey.rows as u16)
         && words[at] == 0x3000_0000 + n as u32
         && distances_read(words, at + 1, n)
         && words[end - 1] == 0x4000_0000 + end as u32
 }
 
-// The record at the head of the words, as this row, after one of the minute `since`, on a predecessor of q candidates, whose record starts at
-// `place`.
-pub fn read_row(words: &[u32], place: usize, since: u32, q: usize, row: usize) -> Option<Record>
-    requires { (q ≤ candidate_limit) × (row < 65536) × (place < 268435456) }
-    ensures { result ≡ record_at place since q row words.now }
+// The record at the head of the words, as that of the row after those surveyed.
+pub fn read_row(words: &[u32], survey: Survey) -> Option<Record>
+    requires { Followed survey }
+    ensures { result ≡ record_at survey words.now }
 {
     if words.len() == 0 {
         return None;
@@ -164,11 +157,11 @@ pub fn read_row(words: &[u32], place: usize, since: u32, q: usize, row: usize) -
     let head = words[0];
     let c = (head % 32) as usize;
     let p = (head / 32 % 32) as usize;
-    if head / 1024 != 262144 || 16 < c || p != before_of(q, c) {
+    if head / 1024 != 262144 || 16 < c || p != before_of(candidates_of(survey.latest), c) {
         return None;
     }
     let length = record_length(c, p);
-    if words.len() < length || !body_reads(words, place, since, c, p, length, row) {
+    if words.len() < length || !body_reads(words, survey, c, p, length) {
         return None;
     }
     Some(Record {

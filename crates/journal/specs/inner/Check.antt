@@ -1,16 +1,38 @@
 -- What the code of check 7 finds, by the definitions of reading.
-use Rattle.std.specs.Prelude.{ℕ, suc, ◌+◌, ◌-◌, ◌*◌, Bool, ◌&&◌, cond, List, [], ◌∷◌, eqb, leb, length, get_or, drop, Result, Ok, Err, Option as RustOption, Some, None}
+use Rattle.std.specs.Prelude.{ℕ, suc, ◌+◌, ◌-◌, ◌*◌, ◌<◌, ◌≤◌, Bool, ◌&&◌, cond, List, [], ◌∷◌, eqb, leb, length, get_or, drop, Result, Ok, Err, Option as RustOption, Some, None}
 use Rattle.std.proofs.Math.Option.{Option, none, some}
 use Rattle.lists.specs.Loops.{every_below}
 use Rattle.journal.specs.Lists.{starts}
 use Rattle.journal.specs.Row.{Row, row_size, scores, latest_minute}
-use Rattle.journal.specs.Ranges.{distance_ok, cell_ok}
+use Rattle.journal.specs.Ranges.{candidate_limit, distance_ok, cell_ok}
 use Rattle.journal.specs.Record.{distances_word, length_word, predecessor_word, minute_word, read_minute, first_cell, cell_words, float_words, record_length, record_of, read_cell, read_distance, read_row}
 use Rattle.journal.specs.Journal.{words, row_ok, used, read_journal}
 use Rattle.journal.specs.declared.read.Record.{Record}
 use Rattle.journal.specs.declared.check.Predecessor.{Predecessor}
 use Rattle.journal.specs.declared.check.Survey.{Survey}
 use Rattle.refusals.specs.declared.Refusal.{Refusal}
+
+-- ---- the predecessor of a further row
+
+-- where the predecessor's record starts, its number and how many candidates it has
+abbrev pub predecessor_at : ℕ → ℕ → ℕ → RustOption Predecessor
+predecessor_at place row candidates = Some (record { place = place; row = row; candidates = candidates })
+
+-- how many candidates it has, 0 without one
+abbrev pub candidates_of : RustOption Predecessor → ℕ
+candidates_of None = 0
+candidates_of (Some p) = p.candidates
+
+-- where its record starts, 0 without one
+abbrev pub place_of : RustOption Predecessor → ℕ
+place_of None = 0
+place_of (Some p) = p.place
+
+-- what was surveyed may be followed by a row: it has a number of 16 bits, and the predecessor a place of 28 and at most 16 candidates
+pub record Followed (v : Survey) : Type 0 where
+  pub few : candidates_of v.latest ≤ candidate_limit
+  pub number : v.rows < 65536
+  pub place : place_of v.latest < 268435456
 
 -- ---- one record
 
@@ -37,34 +59,19 @@ body_reads place since c p n ws =
 abbrev pub whole_record : ℕ → ℕ → Bool → ℕ → RustOption Record
 whole_record n c s m = Some (record { length = n; candidates = c; scores = s; minute = m })
 
--- what the row reader finds: the record of row number n, after a row of the minute `since`, on a predecessor of q candidates, whose record starts
--- at `place`
-unfoldable pub record_at : ℕ → ℕ → ℕ → ℕ → List ℕ → RustOption Record
-record_at place since q n ws =
-    cond (well_read (record_of place) read_row (row_ok since q n) ws)
-    (whole_record (length (record_of place (read_row ws))) (row_size (read_row ws)) (scores (read_row ws)) (read_row ws).minute)
+-- what the row reader finds at the head of the words: the record of the row after those surveyed
+unfoldable pub record_at : Survey → List ℕ → RustOption Record
+record_at v ws =
+    cond (well_read (record_of (place_of v.latest)) read_row (row_ok v.minute (candidates_of v.latest) v.rows) ws)
+    (whole_record (length (record_of (place_of v.latest) (read_row ws))) (row_size (read_row ws)) (scores (read_row ws)) (read_row ws).minute)
     None
 
 -- ---- the journal
-
--- where the predecessor's record starts, its number and how many candidates it has
-abbrev pub predecessor_at : ℕ → ℕ → ℕ → RustOption Predecessor
-predecessor_at place row candidates = Some (record { place = place; row = row; candidates = candidates })
 
 -- the latest of these rows that scores
 unfoldable pub latest_of : List Row → RustOption Predecessor
 latest_of [] = None
 latest_of (r ∷ rs) = cond (scores r) (predecessor_at (suc (length (words rs))) (length rs) (row_size r)) (latest_of rs)
-
--- how many candidates it has, 0 without one
-abbrev pub candidates_of : RustOption Predecessor → ℕ
-candidates_of None = 0
-candidates_of (Some p) = p.candidates
-
--- where its record starts, 0 without one
-abbrev pub place_of : RustOption Predecessor → ℕ
-place_of None = 0
-place_of (Some p) = p.place
 
 -- the number of rows, of used words, the predecessor of a further row and the latest minute
 abbrev pub well_formed : ℕ → ℕ → RustOption Predecessor → ℕ → Result Survey Refusal

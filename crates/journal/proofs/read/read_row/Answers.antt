@@ -7,15 +7,15 @@ use Rattle.journal.proofs.RecordRead.{row-minute, record-none, record-at}
 use Rattle.journal.proofs.read.read_row.Goals as goal
 
 pub returns-then-words-eq0 : goal.returns-then-words-eq0
-returns-then-words-eq0 c = sym (record-none _ _ _ _ _ c.if-words-eq0.true)
+returns-then-words-eq0 c = sym (record-none _ _ c.if-words-eq0.true)
 
 pub returns-then-head-ne262144 : goal.returns-then-head-ne262144
 returns-then-head-ne262144 c = let s = c.args in
-    rw (record-at s.place s.since s.q s.row s.words.now (omega arith)) (grind (arith, common_steps))
+    rw (record-at s.survey s.words.now (omega arith)) (grind (arith, common_steps))
 
 pub returns-then-words-length : goal.returns-then-words-length
 returns-then-words-length c = let s = c.args in
-    rw (record-at s.place s.since s.q s.row s.words.now (omega arith)) (grind (arith, common_steps))
+    rw (record-at s.survey s.words.now (omega arith)) (grind (arith, common_steps))
 
 pub scores_read-requires : goal.scores_read-requires
 unfolding record_length
@@ -27,4 +27,4 @@ minute_of-requires c = grind (arith, common_steps)
 
 pub returns : goal.returns
 returns c = let s = c.args in
-    rw (record-at s.place s.since s.q s.row s.words.now (omega arith)) (grind (arith, common_steps, row-minute))
+    rw (record-at s.survey s.words.now (omega arith)) (grind (arith, common_steps, row-minute))
