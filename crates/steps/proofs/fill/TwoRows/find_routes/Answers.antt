@@ -27,4 +27,4 @@ pair_routes-requires c =
 pub returns : goal.returns
 returns c =
     let same = ap (λ (x : TrackLists). x.graph) c.track.view_is in
-    rw (← c.self.view_is, ← same) (routes-gathered (read_row c.self.inside.own.now) c.pair_routes.ensures.routes c.candidate_count-before.ensures c.candidates_at-fix.ensures.2)
+    rw (← c.self.view_is, ← same) (routes-gathered (read_row c.self.inside.own.now) c.pair_routes.ensures c.candidate_count-before.ensures c.candidates_at-fix.ensures.2)
