@@ -70,12 +70,7 @@ fn cells_read(words: &[u32], c: usize, p: u32, row: u16) -> bool
     requires { first_cell + 7 * c ≤ length words.now }
     ensures { result ≡ every_below c (λ k. well_read cell_words read_cell (cell_ok p row) (drop (first_cell + 7 * k) words.now)) }
 {
-    for k in 0..c {
-        if !cell_reads(words, FIRST_CELL + 7 * k, p, row) {
-            return false;
-        }
-    }
-    true
+    (0..c).all(|k| cell_reads(words, FIRST_CELL + 7 * k, p, row))
 }
 
 // Whether the words at `at` are a distance's.
@@ -91,12 +86,7 @@ fn each_distance_reads(words: &[u32], at: usize, n: usize) -> bool
     requires { at + 2 * n ≤ length words.now }
     ensures { result ≡ every_below n (λ k. well_read float_words read_distance distance_ok (drop (at + 2 * k) words.now)) }
 {
-    for k in 0..n {
-        if !distance_reads(words, at + 2 * k) {
-            return false;
-        }
-    }
-    true
+    (0..n).all(|k| distance_reads(words, at + 2 * k))
 }
 
 // The same: distances below 2^24 m are in range, which the greatest of their high halves tells of all of them.
@@ -112,12 +102,7 @@ fn scores_read(words: &[u32], c: usize) -> bool
     requires { first_cell + 7 * c ≤ length words.now }
     ensures { result ≡ any_below c (λ k. finite (float_at words.now (first_cell + 7 * k + 5))) }
 {
-    for k in 0..c {
-        if finite_reads(words, FIRST_CELL + 7 * k + 5) {
-            return true;
-        }
-    }
-    false
+    (0..c).any(|k| finite_reads(words, FIRST_CELL + 7 * k + 5))
 }
 
 // How many predecessor candidates a row of c candidates counts, where its predecessor has q.

@@ -1,20 +1,15 @@
 -- `journal::read::cells_read` meets its contract.
-use native.Mathlib.Omega.{arith}
-use mathlib.Core.Path.{sym, ◌∙◌}
-use Rattle.lists.proofs.Loops.{every-none, every-turn, every-done, every-stop}
+use Rattle.std.proofs.Common.{rules, arith, drop, ℕ, ◌+◌, ◌*◌, ◌∙◌}
+use Rattle.std.proofs.lemmas.Iterator.{YieldsList-from_range}
+use Rattle.std.proofs.lemmas.Iterator.Search.{all_from_yields_List}
+use Rattle.journal.specs.Ranges.{cell_ok}
+use Rattle.journal.specs.Record.{first_cell, cell_words, read_cell}
+use Rattle.journal.specs.inner.Check.{well_read}
+use Rattle.journal.proofs.Lists.{all-number}
 use Rattle.journal.proofs.read.cells_read.Goals as goal
 
-pub loop-k-init : goal.loop-k-init
-loop-k-init c = (omega arith, every-none _)
-
-pub cell_reads-requires : goal.cell_reads-requires
-cell_reads-requires c = omega arith
-
-pub returns-then-not-cell_reads : goal.returns-then-not-cell_reads
-returns-then-not-cell_reads c = every-stop c.loop-k.k _ _ c.loop-k-test.true (sym c.cell_reads.ensures ∙ c.if-not-cell_reads.true)
-
-pub loop-k-preserved : goal.loop-k-preserved
-loop-k-preserved c = (omega arith, every-turn _ _ c.loop-k.invariant.1 (sym c.cell_reads.ensures ∙ c.if-not-cell_reads.false))
-
 pub returns : goal.returns
-returns c = every-done _ _ _ c.loop-k.invariant.1 (omega arith)
+returns c =
+    let a = c.args in
+    let test = λ (k : ℕ). well_read cell_words read_cell (cell_ok a.p a.row) (drop (first_cell + 7 * k) a.words.now) in
+    all_from_yields_List test _ _ _ c.all.ensures.ran (YieldsList-from_range 0 a.c a.c (search rules) (omega arith)) (λ k b q called. (search rules, search rules)) ∙ all-number test a.c

@@ -1,20 +1,15 @@
 -- `journal::read::each_distance_reads` meets its contract.
-use native.Mathlib.Omega.{arith}
-use mathlib.Core.Path.{sym, ◌∙◌}
-use Rattle.lists.proofs.Loops.{every-none, every-turn, every-done, every-stop}
+use Rattle.std.proofs.Common.{rules, arith, drop, ℕ, ◌+◌, ◌*◌, ◌∙◌}
+use Rattle.std.proofs.lemmas.Iterator.{YieldsList-from_range}
+use Rattle.std.proofs.lemmas.Iterator.Search.{all_from_yields_List}
+use Rattle.journal.specs.Ranges.{distance_ok}
+use Rattle.journal.specs.Record.{float_words, read_distance}
+use Rattle.journal.specs.inner.Check.{well_read}
+use Rattle.journal.proofs.Lists.{all-number}
 use Rattle.journal.proofs.read.each_distance_reads.Goals as goal
 
-pub loop-k-init : goal.loop-k-init
-loop-k-init c = (omega arith, every-none _)
-
-pub distance_reads-requires : goal.distance_reads-requires
-distance_reads-requires c = omega arith
-
-pub returns-then-not-distance_reads : goal.returns-then-not-distance_reads
-returns-then-not-distance_reads c = every-stop c.loop-k.k _ _ c.loop-k-test.true (sym c.distance_reads.ensures ∙ c.if-not-distance_reads.true)
-
-pub loop-k-preserved : goal.loop-k-preserved
-loop-k-preserved c = (omega arith, every-turn _ _ c.loop-k.invariant.1 (sym c.distance_reads.ensures ∙ c.if-not-distance_reads.false))
-
 pub returns : goal.returns
-returns c = every-done _ _ _ c.loop-k.invariant.1 (omega arith)
+returns c =
+    let a = c.args in
+    let test = λ (k : ℕ). well_read float_words read_distance distance_ok (drop (a.at + 2 * k) a.words.now) in
+    all_from_yields_List test _ _ _ c.all.ensures.ran (YieldsList-from_range 0 a.n a.n (search rules) (omega arith)) (λ k b q called. (search rules, search rules)) ∙ all-number test a.n
