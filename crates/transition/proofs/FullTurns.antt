@@ -335,8 +335,8 @@ plain (inf s) e p = absurd p
 plain (fin true m d) e p = absurd (true≢false (ap clear e))
 plain (fin false m d) e p = tt
 
-pub none-left : (x : Float) → finite x ≡ false → div binary64 (of_bits binary64 0) (of_bits binary64 0) ≡ rem binary64 x full_turn
-unfolding div of_bits rem
+pub none-left : (x : Float) → finite x ≡ false → of_bits binary64 0x7ff8_0000_0000_0000 ≡ rem binary64 x full_turn
+unfolding of_bits rem
 none-left nan e = refl
 none-left (inf s) e = refl
 none-left (fin s m d) e = absurd (true≢false e)
