@@ -5,12 +5,11 @@ use native.Mathlib.Omega.{arith}
 use mathlib.Core.Path.{◌≡◌, refl, sym, ap, ◌∙◌, subst}
 use mathlib.Core.Bool.{Bool, true, false, cond}
 use mathlib.Core.List.{List, [], ◌∷◌, ◌++◌, map, append_cancel_left}
-use mathlib.Core.Option.{Option, none, some}
 use lib.Dec.{T, T_not}
 use lib.ListN.{length, drop}
+use Rattle.std.specs.Prelude.{Option, Some, None}
 use Rattle.journal.specs.Row.{Fix, Row, fix_of}
 use Rattle.journal.specs.Journal.{words, record_on}
-use Rattle.journal.proofs.Lists.{some-none}
 use Rattle.binary64.proofs.Order.{missed}
 use Rattle.rows.specs.Row.{StepsAt, rows}
 use Rattle.decoder.specs.inner.StepRange.{ChecksHold}
@@ -18,7 +17,7 @@ use Rattle.decoder.proofs.Standing.{fixes-rows}
 use Rattle.decoder.proofs.TwoLists.{rows_drop}
 use Rattle.replaying.specs.Replay.{refed, same_record, first_of, first_differing}
 use Rattle.replaying.specs.Replayed.{up_to_row, FedRecords}
-use Rattle.replaying.proofs.Refed.{KnownRows, older, same-record, Refed, refed-rows, all-refed}
+use Rattle.replaying.proofs.Refed.{some-none, KnownRows, older, same-record, Refed, refed-rows, all-refed}
 
 -- ---- the rows up to one of them
 
@@ -55,7 +54,7 @@ module _ (known : ℕ) (step : StepsAt) where
     pub before : (m : ℕ) → m < n → FedRecords step (up_to_row rs m)
 
   module _ (good : ChecksHold known step) where
-    pub first-differs : (rs : List Row) (n : ℕ) → KnownRows known rs → first_differing step rs ≡ some n → First rs n
+    pub first-differs : (rs : List Row) (n : ℕ) → KnownRows known rs → first_differing step rs ≡ Some n → First rs n
     unfolding first_differing
     first-differs [] n h e = some-none (sym e)
     first-differs (r ∷ rs) n h e = go (first_differing step rs) refl (same_record (step r.minute) rs r) refl e (first-differs rs n (older known r rs h))
@@ -63,17 +62,17 @@ module _ (known : ℕ) (step : StepsAt) where
         FedUpTo : List Row → Type 0
         FedUpTo l = FedRecords step l
 
-        go : (o : Option ℕ) → first_differing step rs ≡ o → (b : Bool) → same_record (step r.minute) rs r ≡ b → first_of o (cond b none (some (length rs))) ≡ some n → (first_differing step rs ≡ some n → First rs n)
+        go : (o : Option ℕ) → first_differing step rs ≡ o → (b : Bool) → same_record (step r.minute) rs r ≡ b → first_of o (cond b None (Some (length rs))) ≡ Some n → (first_differing step rs ≡ Some n → First rs n)
             → First (r ∷ rs) n
-        go (some k) p b q x ih =
+        go (Some k) p b q x ih =
             let f = ih (p ∙ x) in
             record {
               stands = omega (arith, f.stands);
               differs = λ y. f.differs (subst FedUpTo (up-to-older r rs n f.stands) y);
               before = λ m l. subst FedUpTo (sym (up-to-older r rs m (omega (arith, f.stands)))) (f.before m l);
             }
-        go none p true q x ih = some-none (sym x)
-        go none p false q x ih =
+        go None p true q x ih = some-none (sym x)
+        go None p false q x ih =
             let a = all-refed step known good rs (older known r rs h) p in
             let last : length rs ≡ n = cc in
             subst (First (r ∷ rs)) last (record {

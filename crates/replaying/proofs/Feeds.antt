@@ -12,6 +12,9 @@ use lib.Seq.{ext_get_or}
 use lib.Ieee.{nan}
 use lib.Ieee.Bits.{is_true}
 use lib.Ieee.Fits.{and_i, eq→eqb}
+use Rattle.std.specs.Prelude.{Ok}
+use Rattle.refusals.specs.declared.Refusal.{Refusal}
+use Rattle.refusals.specs.Refusals.{Checked}
 use Rattle.lists.proofs.Lists.{get_or-number}
 use Rattle.journal.specs.declared.record.Candidate.{Candidate}
 use Rattle.journal.specs.Lists.{each}
@@ -20,8 +23,6 @@ use Rattle.journal.specs.Ranges.{candidate_limit, row_limit, minute_limit, dista
 use Rattle.journal.specs.Journal.{words, record_on, journal, put, used, used_words}
 use Rattle.journal.specs.WellFormed.{Each, Fitting, WellFormed}
 use Rattle.journal.specs.Call.{first_failed, opening}
-use Rattle.journal.specs.declared.call.Answer.{Answer}
-use Rattle.journal.specs.declared.call.Answer.TheVariants.{Done}
 use Rattle.journal.proofs.Lists.{each_append}
 use Rattle.journal.proofs.Rules.{of_four, fix-rules}
 use Rattle.journal.proofs.Reading.{length-journal, used_words-journal}
@@ -79,7 +80,7 @@ fits-back f h = (
 
 -- ---- checks that all pass
 
-none-failed : (l : List (ℕ × Bool)) → Passed l → first_failed l ≡ none
+none-failed : (l : List (Refusal × Bool)) → Passed l → first_failed l ≡ none
 none-failed [] h = refl
 none-failed (c ∷ l) h = rw (is_true c.1 h.0, none-failed l h.1)
 
@@ -99,8 +100,8 @@ opened [] h = absurd (omega arith)
 opened (w ∷ ws) h = ((tt, omega arith, (ws, refl)), refl)
 
 -- what calls answered and left: all were accepted, and n words hold the rows
-pub record Left (rs : List Row) (n : ℕ) (o : List Answer × List ℕ) : Type 0 where
-  pub accepted : Each (λ (a : Answer). a ≡ Done) o.0
+pub record Left (rs : List Row) (n : ℕ) (o : List Checked × List ℕ) : Type 0 where
+  pub accepted : Each (λ (a : Checked). a ≡ Ok tt) o.0
   pub formed : WellFormed o.1 rs
   pub long : length o.1 ≡ n
 
@@ -110,7 +111,7 @@ pub record Left (rs : List Row) (n : ℕ) (o : List Answer × List ℕ) : Type 0
 abbrev again : Row → Given
 again r = handed (fix_of r)
 
-module _ (refusal : Option ℕ) (known : ℕ) (step : StepsAt) where
+module _ (refusal : Option Refusal) (known : ℕ) (step : StepsAt) where
   -- it gives the row again
   row-again : (r : Row) (rs : List Row) → refed (step r.minute) rs r ≡ r → row_fed refusal known step rs (again r) ≡ r
   unfolding handed
@@ -142,7 +143,7 @@ module _ (refusal : Option ℕ) (known : ℕ) (step : StepsAt) where
       → run refusal known step s (cs ++ (c ∷ [])) ≡ ((run refusal known step s cs).0 ++ ((call refusal known step (run refusal known step s cs).1 c).0 ∷ []), (call refusal known step (run refusal known step s cs).1 c).1)
   unfolding run
   run_more s [] c = refl
-  run_more s (b ∷ cs) c = ap (λ (o : List Answer × List ℕ). ((call refusal known step s b).0 ∷ o.0, o.1)) (run_more (call refusal known step s b).1 cs c)
+  run_more s (b ∷ cs) c = ap (λ (o : List Checked × List ℕ). ((call refusal known step s b).0 ∷ o.0, o.1)) (run_more (call refusal known step s b).1 cs c)
 
   module _ (passes : refusal ≡ none) where
     -- one row more
@@ -156,7 +157,7 @@ module _ (refusal : Option ℕ) (known : ℕ) (step : StepsAt) where
         let pass = all_pass r rs h e (length t) (omega (arith, b.long)) in
         let fed = fed-done refusal known step t (again r) rs passes ((well-formed t rs).1 b.formed) pass in
         subst (Left (r ∷ rs) n) (sym (run_more s cs c)) (record {
-          accepted = each_append (λ (a : Answer). a ≡ Done) (run refusal known step s cs).0 ((call refusal known step t c).0 ∷ []) b.accepted (sym fed.0, tt);
+          accepted = each_append (λ (a : Checked). a ≡ Ok tt) (run refusal known step s cs).0 ((call refusal known step t c).0 ∷ []) b.accepted (sym fed.0, tt);
           formed = (h.obey, h.few, (w.0, sym fed.1 ∙ ap (λ (q : Row). put t (used t) (record_on rs q)) (row-again r rs e) ∙ w.1));
           long = call_length refusal known step t c ∙ b.long;
         })

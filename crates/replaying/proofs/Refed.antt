@@ -5,11 +5,11 @@ use native.Mathlib.Omega.{arith}
 use mathlib.Core.Path.{◌≡◌, refl, sym, ap, ◌∙◌, subst}
 use mathlib.Core.Bool.{Bool, true, false, cond}
 use mathlib.Core.List.{List, [], ◌∷◌, map, append-nil}
-use mathlib.Core.Option.{Option, none, some}
 use lib.Dec.{T, ltb, ltb→lt}
 use lib.ListN.{length, drop, length-map}
 use lib.Ieee.Fits.{and_i, and_l, and_r}
 use lib.Ieee.Bits.{is_true}
+use Rattle.std.specs.Prelude.{Option, Some, None}
 use Rattle.binary64.proofs.Order.{taken}
 use Rattle.journal.specs.Lists.{each, starts}
 use Rattle.journal.specs.Row.{Fix, Cell, Row, fix_of, predecessor, size_of, latest_minute}
@@ -17,7 +17,7 @@ use Rattle.journal.specs.Ranges.{row_limit, candidate_ok, cell_ok}
 use Rattle.journal.specs.Record.{record_of, read_row}
 use Rattle.journal.specs.Journal.{predecessor_place, record_on}
 use Rattle.journal.specs.WellFormed.{Each, CellFits, RowFits, Obey}
-use Rattle.journal.proofs.Lists.{some-none, starts-split}
+use Rattle.journal.proofs.Lists.{starts-split}
 use Rattle.journal.proofs.Rules.{candidate-rules, rules-candidate, cell-rules, rules-fix, row-rules}
 use Rattle.journal.proofs.Reading.{read-row}
 use Rattle.rows.specs.Row.{StepsAt, row, rows}
@@ -27,6 +27,10 @@ use Rattle.decoder.proofs.Cells.{fix-row}
 use Rattle.decoder.proofs.Standing.{CandidateFits, Accepted, AllAccepted, rows-obey}
 use Rattle.replaying.specs.Replay.{refed, same_record, first_of, first_differing}
 use Rattle.replaying.proofs.Same.{starts-same}
+
+-- a number is found, or none
+pub some-none : {A : Type 0} {n : ℕ} → ◌≡◌ {A = Option ℕ} (Some n) None → A
+some-none e = let z : ◌≡◌ {A = ℕ} 0 1 = cc in absurd (omega arith)
 
 -- ---- rows that a journal may hold
 
@@ -99,7 +103,7 @@ module _ (step : StepsAt) where
   refed-rows (r ∷ rs) h = sym (ap (λ (x : Row). x ∷ rs) h.0) ∙ ap (λ (l : List Row). refed (step r.minute) l r ∷ l) (refed-rows rs h.1)
 
   -- of the rows of fixes none differs
-  pub none-differs : (fs : List Fix) → first_differing step (rows step fs) ≡ none
+  pub none-differs : (fs : List Fix) → first_differing step (rows step fs) ≡ None
   unfolding rows first_differing
   none-differs [] = refl
   none-differs (f ∷ fs) =
@@ -127,15 +131,15 @@ module _ (step : StepsAt) where
           let obey = rows-obey n good.0 step good.1 (fix_of r ∷ map fix_of rs) (omega (arith, length-map rs fix_of, h.few)) (all-accepted r rs h a) in
           subst (λ (l : List Row). RowFits (refed (step r.minute) l r)) (sym (refed-rows rs a)) obey.0.0
 
-      pub all-refed : (rs : List Row) → KnownRows n rs → first_differing step rs ≡ none → Refed rs
+      pub all-refed : (rs : List Row) → KnownRows n rs → first_differing step rs ≡ None → Refed rs
       unfolding first_differing
       all-refed [] h e = tt
       all-refed (r ∷ rs) h e = go (first_differing step rs) refl (same_record (step r.minute) rs r) refl e (all-refed rs (older n r rs h))
         where
-          go : (o : Option ℕ) → first_differing step rs ≡ o → (b : Bool) → same_record (step r.minute) rs r ≡ b → first_of o (cond b none (some (length rs))) ≡ none → (first_differing step rs ≡ none → Refed rs)
+          go : (o : Option ℕ) → first_differing step rs ≡ o → (b : Bool) → same_record (step r.minute) rs r ≡ b → first_of o (cond b None (Some (length rs))) ≡ None → (first_differing step rs ≡ None → Refed rs)
               → (refed (step r.minute) rs r ≡ r) × Refed rs
-          go (some k) p b q x ih = some-none x
-          go none p false q x ih = some-none x
-          go none p true q x ih =
+          go (Some k) p b q x ih = some-none x
+          go None p false q x ih = some-none x
+          go None p true q x ih =
               let t : T (starts (record_on rs (refed (step r.minute) rs r)) (record_on rs r)) = unfold same_record in taken q in
               (same_row_lem (predecessor_place rs) (refed (step r.minute) rs r) r (refed-fits r rs h (ih p)) h.obey.0.0 t, ih p)

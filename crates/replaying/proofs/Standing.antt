@@ -5,11 +5,12 @@ use native.Mathlib.Numerals.{add-one}
 use mathlib.Core.Path.{◌≡◌, refl, sym, ap, ◌∙◌, subst, subst₂}
 use mathlib.Core.Bool.{Bool, true, false, cond}
 use mathlib.Core.List.{List, [], ◌∷◌}
-use mathlib.Core.Option.{Option, none, some}
+use mathlib.Core.Option.{Option as Maybe, none, some}
 use lib.Dec.{ltb, eqb, ltb→lt}
 use lib.ListN.{length, get_or, take, drop, length-drop, length-append}
 use lib.Seq.{drop-cons, drop-drop}
 use borrow.Author.Tests.{eq-eqb, ne_eqb}
+use Rattle.std.specs.Prelude.{Option, Some, None}
 use Rattle.lists.specs.Lists.{number}
 use Rattle.network.specs.Graph.{element_count}
 use Rattle.journal.specs.Lists.{starts}
@@ -18,11 +19,10 @@ use Rattle.journal.specs.Ranges.{candidate_limit}
 use Rattle.journal.specs.Record.{predecessor_word, first_cell, record_length, record_of, read_row}
 use Rattle.journal.specs.Journal.{words, predecessor_place, record_on}
 use Rattle.journal.specs.WellFormed.{Obey}
-use Rattle.journal.specs.inner.Check.{latest_of, place_of}
+use Rattle.journal.specs.inner.Check.{predecessor_at, latest_of, place_of}
 use Rattle.journal.specs.inner.Rows.{rows_before}
 use Rattle.journal.specs.declared.check.Predecessor.{Predecessor}
 use Rattle.journal.specs.declared.record.Candidate.{Candidate}
-use Rattle.journal.specs.declared.check.Predecessor.TheVariants.{Nothing, At}
 use Rattle.journal.proofs.Lists.{all-at}
 use Rattle.journal.proofs.Rules.{RowRules, row-rules}
 use Rattle.journal.proofs.Reading.{length-record, words_small, words-drop}
@@ -59,7 +59,7 @@ before-again q c = go (eqb c 0)
     go true = refl
     go false = refl
 
-empty-row : (step : StepScore) (f : Fix) (o p : Option Row) → length f.candidates ≡ 0 → row step o f ≡ row step p f
+empty-row : (step : StepScore) (f : Fix) (o p : Maybe Row) → length f.candidates ≡ 0 → row step o f ≡ row step p f
 unfolding row number
 empty-row step f o p e = go f.candidates refl e
   where
@@ -152,7 +152,7 @@ module _ {n : ℕ} {rs : List Row} {s : List ℕ} {end : ℕ} (h : Replayable n 
       place-within = omega (arith, place_inside qs, st.placed, inside)
 
       -- its record, where there is one
-      module _ {place row candidates : ℕ} (e : latest_of qs ≡ At place row candidates) where
+      module _ {place row candidates : ℕ} (e : latest_of qs ≡ predecessor_at place row candidates) where
         latest : Latest qs place row candidates
         latest = latest-some qs place row candidates e
 
@@ -201,9 +201,9 @@ module _ {n : ℕ} {rs : List Row} {s : List ℕ} {end : ℕ} (h : Replayable n 
       predecessor-known : 0 < r.before → RecordKnown n (drop (predecessor_place qs) s) r.before
       predecessor-known some-before = go (latest_of qs) refl
         where
-          go : (l : Predecessor) → latest_of qs ≡ l → RecordKnown n (drop (predecessor_place qs) s) r.before
-          go Nothing e = absurd (omega (arith, before-none (latest-none qs e)))
-          go (At place row candidates) e =
+          go : (l : Option Predecessor) → latest_of qs ≡ l → RecordKnown n (drop (predecessor_place qs) s) r.before
+          go None e = absurd (omega (arith, before-none (latest-none qs e)))
+          go (Some q) e =
               let size = before-some (latest e).latest (latest e).is (λ z. omega (arith, before-empty z)) in
               subst (RecordKnown n (drop (predecessor_place qs) s)) (sym size) (latest-known e)
 
@@ -214,9 +214,9 @@ module _ {n : ℕ} {rs : List Row} {s : List ℕ} {end : ℕ} (h : Replayable n 
           some-row zero l = absurd (omega arith)
           some-row (suc p) l = refl
 
-          go : (l : Predecessor) → latest_of qs ≡ l → predecessor_in (drop (predecessor_place qs) s) r.before ≡ predecessor qs
-          go Nothing e = let none_before = latest-none qs e in rw (before-none none_before, none_before)
-          go (At place row candidates) e =
+          go : (l : Option Predecessor) → latest_of qs ≡ l → predecessor_in (drop (predecessor_place qs) s) r.before ≡ predecessor qs
+          go None e = let none_before = latest-none qs e in rw (before-none none_before, none_before)
+          go (Some q) e =
               let size = before-some (latest e).latest (latest e).is some_size in
               some-row r.before (omega (arith, size, some-candidates e)) ∙ ap some (read e) ∙ sym (latest e).is
 
@@ -228,7 +228,7 @@ module _ {n : ℕ} {rs : List Row} {s : List ℕ} {end : ℕ} (h : Replayable n 
         where
           go : (c : ℕ) → row_size r ≡ c → row step (predecessor_in (drop (predecessor_place qs) s) r.before) (fix_of r) ≡ row step (predecessor qs) (fix_of r)
           go zero e = empty-row step (fix_of r) (predecessor_in (drop (predecessor_place qs) s) r.before) (predecessor qs) (candidates-many r ∙ e)
-          go (suc c) e = ap (λ (o : Option Row). row step o (fix_of r)) (predecessor-is (λ z. omega arith))
+          go (suc c) e = ap (λ (o : Maybe Row). row step o (fix_of r)) (predecessor-is (λ z. omega arith))
 
       -- ---- as the code is handed the journal from the row's place on
 

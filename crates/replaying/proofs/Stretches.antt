@@ -6,9 +6,9 @@ use mathlib.Core.Path.{◌≡◌, refl, sym, ap, ◌∙◌, subst}
 use mathlib.Core.Logic.{◌⊎◌, inl, inr}
 use mathlib.Core.Bool.{Bool, true, false, cond}
 use mathlib.Core.List.{List, [], ◌∷◌}
-use mathlib.Core.Option.{none, some}
 use lib.ListN.{length, drop, length-drop}
 use lib.Seq.{drop-length}
+use Rattle.std.specs.Prelude.{Some, None}
 use Rattle.lists.proofs.Loops.{clash}
 use Rattle.journal.specs.Row.{Row, row_number}
 use Rattle.journal.specs.Journal.{words}
@@ -64,25 +64,25 @@ module _ {step : StepScore} {minute : ℕ} {rs : List Row} {start row at : ℕ} 
 
 module _ (step : StepsAt) (rs : List Row) where
   -- a row further that is the same
-  differs_next : (n : ℕ) → n < length rs → (b : Bool) → first_differing step (rows_before rs n) ≡ none → same_record (step (row_number rs n).minute) (rows_before rs n) (row_number rs n) ≡ b
-      → first_differing step (rows_before rs (suc n)) ≡ cond b none (some n)
+  differs_next : (n : ℕ) → n < length rs → (b : Bool) → first_differing step (rows_before rs n) ≡ None → same_record (step (row_number rs n).minute) (rows_before rs n) (row_number rs n) ≡ b
+      → first_differing step (rows_before rs (suc n)) ≡ cond b None (Some n)
   unfolding first_differing
   differs_next n l b e f =
       let numbered : length (rows_before rs n) ≡ n = length-drop (length rs - n) rs ∙ omega arith in
       ap (first_differing step) (before-next rs n l) ∙ rw (e, f, numbered)
 
   -- rows later than one that differs
-  differs-later : (k n : ℕ) (l : List Row) → first_differing step (drop k l) ≡ some n → first_differing step l ≡ some n
+  differs-later : (k n : ℕ) (l : List Row) → first_differing step (drop k l) ≡ Some n → first_differing step l ≡ Some n
   unfolding first_differing
   differs-later zero n l e = e
   differs-later (suc k) n [] e = e
   differs-later (suc k) n (r ∷ l) e = rw (differs-later k n l e)
 
-  module _ {minute start : ℕ} {r : Reached} (s : Stretch (step minute) minute rs start r) (before : first_differing step (rows_before rs start) ≡ none) where
+  module _ {minute start : ℕ} {r : Reached} (s : Stretch (step minute) minute rs start r) (before : first_differing step (rows_before rs start) ≡ None) where
     same_at : (n : ℕ) (b : Bool) → SameAt (step minute) minute rs n b → same_record (step (row_number rs n).minute) (rows_before rs n) (row_number rs n) ≡ b
     same_at n b h = rw h.minute-is h.is
 
-    none_yet : (d : ℕ) → start + d ≤ r.row → first_differing step (rows_before rs (start + d)) ≡ none
+    none_yet : (d : ℕ) → start + d ≤ r.row → first_differing step (rows_before rs (start + d)) ≡ None
     none_yet zero l = rw (add-zero start) before
     none_yet (suc d) l =
         let here = s.same_rows (start + d) (omega arith) (omega arith) in
@@ -91,10 +91,10 @@ module _ (step : StepsAt) (rs : List Row) where
     pub stretch-compared : Compared step rs r
     stretch-compared = record { stands = s.stands; so_far = so_far; told = λ e. differs-later (length rs - suc r.row) r.row rs (told (s.told e)) }
       where
-        so_far : first_differing step (rows_before rs r.row) ≡ none
+        so_far : first_differing step (rows_before rs r.row) ≡ None
         so_far = let whole : start + (r.row - start) ≡ r.row = omega (arith, s.from_start) in rw (← whole) (none_yet (r.row - start) (omega arith))
 
-        told : SameAt (step minute) minute rs r.row false → first_differing step (rows_before rs (suc r.row)) ≡ some r.row
+        told : SameAt (step minute) minute rs r.row false → first_differing step (rows_before rs (suc r.row)) ≡ Some r.row
         told h = differs_next r.row h.stands false so_far (same_at r.row false h)
 
 -- ---- all of them
@@ -112,10 +112,10 @@ compared-less h (inl l) e = omega (arith, h.stands.within)
 compared-less h (inr f) e = clash e f
 
 -- at the end no row differs
-pub compared-end : {n : ℕ} {step : StepsAt} {rs : List Row} {s : List ℕ} {end : ℕ} {r : Reached} → Replayable n rs s end → Compared step rs r → (r.at ≡ end) ⊎ (r.same ≡ false) → r.same ≡ true → first_differing step rs ≡ none
+pub compared-end : {n : ℕ} {step : StepsAt} {rs : List Row} {s : List ℕ} {end : ℕ} {r : Reached} → Replayable n rs s end → Compared step rs r → (r.at ≡ end) ⊎ (r.same ≡ false) → r.same ≡ true → first_differing step rs ≡ None
 compared-end h c (inr f) e = clash e f
 compared-end {n} {step} {rs} {s} {end} {r} h c (inl l) e = go (length rs - r.row) refl c.so_far
   where
-    go : (m : ℕ) → length rs - r.row ≡ m → first_differing step (drop m rs) ≡ none → first_differing step rs ≡ none
+    go : (m : ℕ) → length rs - r.row ≡ m → first_differing step (drop m rs) ≡ None → first_differing step rs ≡ None
     go zero q f = f
     go (suc m) q f = let past = row-before-end h c.stands (omega arith) in absurd (omega arith)
