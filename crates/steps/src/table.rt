@@ -47,11 +47,11 @@ impl RowSteps {
     }
 
     // Those between two rows, whose records stand at the head of some words. The network, which is accepted, is compiled for the own row's minute.
-    fn between(
-        net: &Network<'_>,
+    fn between<'a>(
+        net: &Network<'a>,
         settings: Settings,
-        own: &[u32],
-        previous: &[u32],
+        own: &'a [u32],
+        previous: &'a [u32],
         predecessor_row: u32,
         row: u32,
     ) -> RowSteps
@@ -105,6 +105,7 @@ impl RowSteps {
     }
 
     // How many are possible.
+    #[tactic(auto, unfolding(crate::specs::inner::Tables::possible_count))]
     pub fn possible(&self) -> usize
         ensures { result ≡ possible_count self.now.steps self.now.n }
     {
