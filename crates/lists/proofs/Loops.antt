@@ -1,16 +1,11 @@
 -- A turn of each loop, and its end; what `every_below` and `any_below` tell of each number. Assumes nothing.
-use mathlib.Core.Path.{◌≡◌, refl, sym, ap, subst, fun_ext, ◌∙◌}
+use mathlib.Core.Path.{◌≡◌, refl, sym, ap, subst, fun_ext}
 use mathlib.Core.Bool.{Bool, true, false, ◌&&◌, ◌||◌}
-use mathlib.Core.List.{List, [], ◌∷◌, ◌++◌}
 use mathlib.Core.Logic.{◌⊎◌, inl, inr, ⊎_elim}
 use Prim.Native.Nat.{ℕ, zero, suc, ◌+◌, ◌<◌}
 use native.Mathlib.Nat.{not-suc-le-zero, le_of_suc-le-suc, eq-or-lt_of_le}
 use native.Mathlib.Omega.{arith}
 use native.Mathlib.Numerals.{add-one}
-use lib.ListN.{length, get_or, get_or-append}
-use lib.Seq.{get_or-append_seam}
-use Rattle.std.specs.List.{list_all, list_any, range_with_len}
-use Rattle.std.proofs.lemmas.List.{length_push}
 use Rattle.lists.specs.Loops.{up_to, every_below, any_below}
 
 -- ---- tests
@@ -148,7 +143,7 @@ any_front (suc n) test = rw (any_front n test) (or_assoc (test 0) (any_below n (
 pub every-same : (n : ℕ) (f g : ℕ → Bool) → ((k : ℕ) → f k ≡ g k) → every_below n f ≡ every_below n g
 every-same n f g h = ap (every_below n) (fun_ext h)
 
-every_alike : (n : ℕ) (f g : ℕ → Bool) → ((k : ℕ) → k < n → f k ≡ g k) → every_below n f ≡ every_below n g
+pub every_alike : (n : ℕ) (f g : ℕ → Bool) → ((k : ℕ) → k < n → f k ≡ g k) → every_below n f ≡ every_below n g
 unfolding every_below
 every_alike zero f g h = refl
 every_alike (suc n) f g h = rw (every_alike n f g (λ k l. h k (omega arith)), h n (omega arith))
@@ -157,33 +152,3 @@ pub any_same : (n : ℕ) (f g : ℕ → Bool) → ((k : ℕ) → k < n → f k �
 unfolding any_below
 any_same zero f g h = refl
 any_same (suc n) f g h = rw (any_same n f g (λ k l. h k (omega arith)), h n (omega arith))
-
--- ---- every entry of a list
-
--- where one is added at the end, as a fold over the list does
-pub every-pushed : {A : Type 0} (test : A → Bool) (d : A) (ys : List A) (x : A) {was is : Bool} →
-    was ≡ every_below (length ys) (λ k. test (get_or ys k d)) → is ≡ was && test x → is ≡ every_below (length (ys ++ x ∷ [])) (λ k. test (get_or (ys ++ x ∷ []) k d))
-unfolding every_below
-every-pushed test d ys x h e =
-    rw (length_push ys x, add-one, get_or-append_seam ys x [] d, every_alike (length ys) _ (λ k. test (get_or ys k d)) (λ k l. ap test (get_or-append ys (x ∷ []) d k l)), ← h) e
-
--- as `all` and `any` find it out: on a list, and on the numbers from a on
-pub all-every : {A : Type 0} (test : A → Bool) (d : A) (xs : List A) → list_all test xs ≡ every_below (length xs) (λ k. test (get_or xs k d))
-unfolding every_below
-all-every test d [] = refl
-all-every test d (x ∷ xs) = rw (every_front (length xs) (λ k. test (get_or (x ∷ xs) k d)), all-every test d xs)
-
-pub any-entry : {A : Type 0} (test : A → Bool) (d : A) (xs : List A) → list_any test xs ≡ any_below (length xs) (λ k. test (get_or xs k d))
-unfolding any_below
-any-entry test d [] = refl
-any-entry test d (x ∷ xs) = rw (any_front (length xs) (λ k. test (get_or (x ∷ xs) k d)), any-entry test d xs)
-
-any-from : (test : ℕ → Bool) (a n : ℕ) → list_any test (range_with_len a n) ≡ any_below n (λ k. test (a + k))
-unfolding any_below
-any-from test a zero = refl
-any-from test a (suc n) =
-    let zero-on : test (a + 0) ≡ test a = ap test (omega arith) in
-    rw (any_front n (λ k. test (a + k)), zero-on, any-from test (a + 1) n, any_same n (λ k. test (a + 1 + k)) (λ k. test (a + suc k)) (λ k l. ap test (omega arith)))
-
-pub any-number : (test : ℕ → Bool) (n : ℕ) → list_any test (range_with_len 0 n) ≡ any_below n test
-any-number test n = any-from test 0 n ∙ any_same n (λ k. test (0 + k)) test (λ k l. ap test (omega arith))

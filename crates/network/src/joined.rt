@@ -64,6 +64,10 @@ pub fn are_joined(net: &Network<'_>, minute: u32, sources: Nodes, targets: Nodes
     ensures { result ≡ joined (links_of (length net.now.lengths) (relations_at net.now.windows minute net.now.relations)) sources targets }
 {
     let elements = net.lengths.len();
-    (0..net.relations.from.len())
-        .any(|k| relation_leads(elements, sources, targets, relation_at(net, minute, k)))
+    (0..net.relations.from.len()).any(|k| relation_leads(
+        elements,
+        sources,
+        targets,
+        relation_at(net, minute, k),
+    ))
 }

@@ -1,15 +1,15 @@
 -- `network::check::sides_fit` meets its contract.
-use Rattle.std.proofs.Common.{rules, sym}
-use Rattle.lists.proofs.Loops.{every-none, every-kept, every-all-kept}
+use Rattle.std.proofs.Common.{rules, ℕ, Bool, leb, nat_eq, not, ◌&&◌, ◌∙◌}
+use Rattle.std.proofs.lemmas.Iterator.{YieldsList-from_slice, YieldsList-from_zip}
+use Rattle.lists.proofs.Chains.{all-pairs, folded-all}
 use Rattle.network.specs.Network.{sides_fit}
 use Rattle.network.proofs.check.sides_fit.Goals as goal
 
-pub loop-k-init : goal.loop-k-init
-loop-k-init c = sym (every-none _)
-
-pub loop-k-preserved : goal.loop-k-preserved
-loop-k-preserved c = every-kept _ _ c.loop-k.invariant (search rules)
-
 pub returns : goal.returns
 unfolding sides_fit
-returns c = every-all-kept _ _ _ c.loop-k.invariant (search rules)
+returns c =
+    let fit : ℕ → ℕ → Bool = λ a b. leb a 1 && leb b 1 in
+    let x = YieldsList-from_slice c.args.from_side.now (search rules) in
+    let y = YieldsList-from_slice c.args.to_side.now (search rules) in
+    folded-all (λ (p : ℕ × ℕ). fit p.0 p.1) _ _ c.fold.ensures.ran (YieldsList-from_zip x y) (λ ok z b q k. (search rules, search rules))
+    ∙ all-pairs fit 0 0 _ _ c.requires

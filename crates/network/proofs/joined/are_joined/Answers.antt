@@ -2,7 +2,7 @@
 use Rattle.std.proofs.Common.{rules, arith, ℕ, length, ◌∙◌}
 use Rattle.std.proofs.lemmas.Iterator.{YieldsList-from_range}
 use Rattle.std.proofs.lemmas.Iterator.Search.{any_from_yields_List}
-use Rattle.lists.proofs.Loops.{any-number}
+use Rattle.lists.proofs.Chains.{any-numbers}
 use Rattle.network.specs.Graph.{relation_at, relations_at}
 use Rattle.network.specs.inner.Nodes.{relation_leads}
 use Rattle.network.proofs.Joining.{joined-relations}
@@ -15,4 +15,4 @@ returns c =
     let n = length net.relations.from in
     let leads = λ (k : ℕ). relation_leads (length net.lengths) c.args.sources c.args.targets (relation_at (relations_at net.windows c.args.minute net.relations) k) in
     any_from_yields_List leads _ _ _ c.any.ensures.ran (YieldsList-from_range 0 n n (search rules) (omega arith)) (λ k b q called. (search rules, search rules))
-    ∙ any-number leads n ∙ joined-relations _ _ _ _
+    ∙ any-numbers leads n ∙ joined-relations _ _ _ _
