@@ -1,23 +1,21 @@
 -- `network::link::is_shut` meets its contract.
-use Rattle.std.proofs.Common.{rules, sym}
-use Rattle.lists.proofs.Loops.{any_none, any-turn, any-done, any-stop}
+use Rattle.std.proofs.Common.{rules, arith, leb, ltb, ℕ, ◌&&◌, ◌∙◌, sym}
+use Rattle.std.proofs.lemmas.Iterator.{YieldsList-from_range}
+use Rattle.std.proofs.lemmas.Iterator.Search.{any_from_yields_List}
+use Rattle.lists.proofs.Chains.{any-numbers}
+use Rattle.network.specs.Network.{window_count, first_minute, last_minute}
 use Rattle.network.specs.Graph.{is_shut}
 use Rattle.network.proofs.Shut.{open-past}
 use Rattle.network.proofs.link.is_shut.Goals as goal
 
-pub returns-then-windows-k : goal.returns-then-windows-k
-returns-then-windows-k c = sym (open-past _ _ _ (search rules))
-
-pub loop-i-init : goal.loop-i-init
-loop-i-init c = any_none _
-
-pub returns-then-minute-windows : goal.returns-then-minute-windows
+pub returns-then-k-windows : goal.returns-then-k-windows
 unfolding is_shut
-returns-then-minute-windows c = any-stop c.loop-i.i _ _ (search rules) (search rules)
+returns-then-k-windows c =
+    let w = c.args.windows.now in
+    let n = window_count w c.args.k in
+    let covers = λ (i : ℕ). leb (first_minute w c.args.k i) c.args.minute && ltb c.args.minute (last_minute w c.args.k i) in
+    any_from_yields_List covers _ _ _ c.any.ensures.ran (YieldsList-from_range 0 n n (search rules) (omega arith)) (λ i b q called. (search rules, search rules))
+    ∙ any-numbers covers n
 
-pub loop-i-preserved : goal.loop-i-preserved
-loop-i-preserved c = any-turn _ _ c.loop-i.invariant (search rules)
-
-pub returns : goal.returns
-unfolding is_shut
-returns c = any-done _ _ _ c.loop-i.invariant (search rules)
+pub returns-else-k-windows : goal.returns-else-k-windows
+returns-else-k-windows c = search (rules, open-past)
