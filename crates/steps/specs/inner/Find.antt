@@ -83,6 +83,6 @@ pub record TwoRows : Type 0 where
   pub previous : List ℕ
 
 -- on which a step between each pair of them can be scored
-pub record RowsStand (x : TwoRows) : Type 0 where
+pub record TwoRowsFit (x : TwoRows) : Type 0 where
   pub track : TrackFits (track_in x.track)
   pub records : TwoRecords (length x.track.graph.lengths) x.own x.previous
