@@ -6,20 +6,19 @@ ghost use Rattle.std.specs.Float.Ieee.{to_bits};
 ghost use Rattle.std.specs.Float.Ieee.Scale.{finite};
 ghost use Rattle.journal.specs.Record.{float_words, float_at};
 
+use std::num::{f64_from_bits_with_nan, f64_to_bits_with_nan};
+
 pub fn is_finite(x: f64) -> bool
     ensures { result ≡ finite x }
 {
-    binary64::minus_infinity() < x && x < binary64::infinity()
+    x.is_finite()
 }
 
 // The bits of x, one pattern for every NaN.
 pub fn bits_of(x: f64) -> u64
     ensures { result ≡ to_bits binary64 x }
 {
-    if x != x {
-        return 0x7ff8_0000_0000_0000;
-    }
-    f64::to_bits(x)
+    f64_to_bits_with_nan(x)
 }
 
 // The two words of x at `at`.
@@ -37,9 +36,5 @@ pub fn float_at(words: &[u32], at: usize) -> f64
     requires { at + 1 < length words.now }
     ensures { result ≡ float_at words.now at }
 {
-    let bits: u64 = words[at] as u64 * 4294967296 + words[at + 1] as u64;
-    if 0x7ff0_0000_0000_0000 < bits % 0x8000_0000_0000_0000 {
-        return 0.0 / 0.0;
-    }
-    f64::from_bits(bits)
+    f64_from_bits_with_nan(words[at] as u64 * 4294967296 + words[at + 1] as u64)
 }

@@ -68,10 +68,9 @@ fn put_distances(words: &mut [u32], at: usize, distances: &[f64])
     requires distances_len_bound { length distances.now ≤ 256 }
     ensures { words.new ≡ sets words.old at (distances_words distances.now) }
 {
-    let n = distances.len();
-    words[at] = 0x3000_0000 + n as u32;
-    for k in 0..n {
-        put_float(words, at + 1 + 2 * k, distances[k]);
+    words[at] = 0x3000_0000 + distances.len() as u32;
+    for (k, distance) in distances.iter().enumerate() {
+        put_float(words, at + 1 + 2 * k, *distance);
     }
 }
 

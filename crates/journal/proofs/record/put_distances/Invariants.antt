@@ -1,5 +1,5 @@
 -- What the loop of `journal::record::put_distances` keeps.
-use Prim.Native.Nat.{◌+◌, ◌-◌, ◌≤◌}
+use Prim.Native.Nat.{◌+◌}
 use mathlib.Core.Path.{◌≡◌}
 use lib.Seq.{sets}
 use lib.ListN.{length, take}
@@ -8,7 +8,4 @@ use Rattle.journal.specs.Lists.{flat}
 use Rattle.journal.proofs.record.put_distances.Given as goal
 
 abbrev pub invariant-loop-k : goal.invariant-loop-k
-invariant-loop-k l = (l.k ≤ l.n) × (length l.words ≡ length l.initial.words) × (l.words ≡ sets l.initial.words (l.at + 1) (flat float_words (take l.k l.distances)))
-
-abbrev pub decreases-loop-k : goal.decreases-loop-k
-decreases-loop-k l = l.n - l.k
+invariant-loop-k l = (length l.words ≡ length l.initial.words) × (l.words ≡ sets l.initial.words (l.at + 1) (flat float_words (take l.k l.distances)))
