@@ -4,14 +4,17 @@ use Rattle.bridges.specs.Bridges.{cheapest_of}
 use Rattle.bridges.proofs.Between.{between_none, between-near, between-far}
 use Rattle.bridges.proofs.insert.bridges_between.Goals as goal
 
-pub returns-then-cost : goal.returns-then-cost
-returns-then-cost c = let told = c.cheapest_sides-best.ensures ∙ ap cheapest_of c.element_routes-routes.ensures in
-    between-near _ _ _ told _ _ _ c.in-Sides.is c.if-cost.true c.no_bridges.ensures
+pub returns-then-best : goal.returns-then-best
+returns-then-best c =
+    let told = c.cheapest_sides.ensures ∙ ap cheapest_of c.element_routes.ensures in
+    between-near _ _ _ told _ c.in-Some.is c.if-best.true c.no_bridges.ensures
 
-pub returns-else-cost : goal.returns-else-cost
-returns-else-cost c = let told = c.cheapest_sides-best.ensures ∙ ap cheapest_of c.element_routes-routes.ensures in
-    between-far _ _ _ told _ _ _ c.in-Sides.is c.if-cost.false c.trace_intermediate_netelements.ensures
+pub returns-else-best : goal.returns-else-best
+returns-else-best c =
+    let told = c.cheapest_sides.ensures ∙ ap cheapest_of c.element_routes.ensures in
+    between-far _ _ _ told _ c.in-Some.is c.if-best.false c.trace_intermediate_netelements.ensures
 
-pub returns-in-Nothing : goal.returns-in-Nothing
-returns-in-Nothing c = let told = c.cheapest_sides-best.ensures ∙ ap cheapest_of c.element_routes-routes.ensures in
-    between_none _ _ _ told c.in-Nothing.is c.no_bridges-in-Nothing.ensures
+pub returns-in-None : goal.returns-in-None
+returns-in-None c =
+    let told = c.cheapest_sides.ensures ∙ ap cheapest_of c.element_routes.ensures in
+    between_none _ _ _ told c.in-None.is c.no_bridges-in-None.ensures

@@ -5,19 +5,15 @@ use Rattle.bridges.proofs.Joined.{joined-none}
 use Rattle.bridges.proofs.insert.insert_bridges.Goals as goal
 
 pub returns-then-are_joined : goal.returns-then-are_joined
-returns-then-are_joined c = let told = rw (c.element_nodes-sources.ensures, c.element_nodes-targets.ensures, c.wide.ensures.0, c.wide-2.ensures.0) at (sym c.are_joined.ensures ∙ c.if-are_joined.true) in
+returns-then-are_joined c =
+    let told = rw (c.element_nodes-sources.ensures, c.element_nodes-targets.ensures) at (sym c.are_joined.ensures ∙ c.if-are_joined.true) in
     c.no_bridges.ensures ∙ ap bridges_of (sym (joined-none _ c.requires.sound_graph _ _ told))
 
-pub compile_network-requires : goal.compile_network-requires
-compile_network-requires c =
-    record {
-      relations_fit = c.requires.relations_fit;
-      lengths_bound = c.requires.sound_graph.few;
-      fact_2 = (c.no_heads-heads.ensures, c.no_links-links.ensures);
-    }
+pub compile_network-graph-requires-clause-lengths_bound : goal.compile_network-graph-requires-clause-lengths_bound
+compile_network-graph-requires-clause-lengths_bound c = c.requires.sound_graph.few
 
 pub bridges_between-requires : goal.bridges_between-requires
-bridges_between-requires c = rw c.compile_network.ensures c.requires.sound_graph
+bridges_between-requires c = rw c.compile_network-graph.ensures.value c.requires.sound_graph
 
 pub returns : goal.returns
-returns c = rw c.compile_network.ensures at c.bridges_between.ensures
+returns c = rw c.compile_network-graph.ensures.value at c.bridges_between.ensures

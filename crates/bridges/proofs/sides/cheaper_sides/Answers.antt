@@ -1,15 +1,19 @@
 -- `bridges::sides::cheaper_sides` meets its contract.
-use Rattle.bridges.proofs.Cheapest.{cheaper-none, cheaper-first, cheaper-less, cheaper-not-less}
+use Rattle.bridges.specs.Bridges.{cheaper}
 use Rattle.bridges.proofs.sides.cheaper_sides.Goals as goal
 
-pub returns-then-cost-least : goal.returns-then-cost-least
-returns-then-cost-least c = cheaper-less _ _ _ _ _ c.in-Cost.is _ _ _ c.in-Sides.is c.if-cost-least.true
+pub returns-in_default : goal.returns-in_default
+unfolding cheaper
+returns-in_default c = rw c.in_default.is
 
-pub returns-else-cost-least : goal.returns-else-cost-least
-returns-else-cost-least c = cheaper-not-less _ _ _ _ _ c.in-Cost.is _ _ _ c.in-Sides.is c.if-cost-least.false
+pub returns-in-Some-best : goal.returns-in-Some-best
+unfolding cheaper
+returns-in-Some-best c = rw (c.in-Some.is, c.in-Some-best.is, c.if-cost-b.true)
 
-pub returns-in-Nothing : goal.returns-in-Nothing
-returns-in-Nothing c = cheaper-first _ _ _ _ _ c.in-Cost.is c.in-Nothing.is
+pub returns-in-Some-2 : goal.returns-in-Some-2
+unfolding cheaper
+returns-in-Some-2 c = rw (c.in-Some.is, c.in-Some-best.is, c.if-cost-b.false)
 
-pub returns-in-Unreachable : goal.returns-in-Unreachable
-returns-in-Unreachable c = cheaper-none _ _ _ _ c.in-Unreachable.is
+pub returns-in-None : goal.returns-in-None
+unfolding cheaper
+returns-in-None c = rw (c.in-Some.is, c.in-None.is)

@@ -1,48 +1,40 @@
 -- `bridges::trace::elements_of` meets its contract. The invariant: the elements of the first k states are found. Assumes nothing.
+use mathlib.Core.Path.{sym}
 use native.Mathlib.Omega.{arith}
+use lib.Seq.{length-take-le}
+use Rattle.bridges.specs.inner.Found.{no_elements}
 use Rattle.bridges.proofs.Tracing.{tracing-none, tracing-done, tracing-few, tracing-long, tracing-same, tracing-room, tracing-more}
 use Rattle.bridges.proofs.trace.elements_of.Goals as goal
 use Rattle.bridges.proofs.trace.elements_of.Goals.{then-not-is_barred, else-not-is_barred}
 
-pub no_elements-elements-requires : goal.no_elements-elements-requires
-no_elements-elements-requires c = tt
+pub loop-state-init : goal.loop-state-init
+unfolding no_elements
+loop-state-init c = tracing-none _ _ _
 
-pub loop-k-init : goal.loop-k-init
-loop-k-init c = tracing-none _ _ _ _ c.no_elements-elements.ensures
+pub slice_bounds-elements-end : goal.slice_bounds-elements-end
+slice_bounds-elements-end c = omega (arith, tracing-few c.loop-state.invariant c.requires, tracing-long c.loop-state.invariant c.requires)
 
-pub offset_bounds-states-k : goal.offset_bounds-states-k
-offset_bounds-states-k c = omega arith
-
-pub bounds-states-k : goal.bounds-states-k
-bounds-states-k c = omega arith
-
-pub is_barred-requires : goal.is_barred-requires
-is_barred-requires c = let t = c.loop-k.invariant in
-    (tracing-few t (omega arith) c.requires.states_len_bound, tracing-long t (omega arith) c.requires.states_len_bound)
+pub slice_bounds-is_barred-end : goal.slice_bounds-is_barred-end
+slice_bounds-is_barred-end c =
+    let few = tracing-few c.loop-state.invariant c.requires in
+    let long = tracing-long c.loop-state.invariant c.requires in
+    sym (length-take-le c.loop-state.count c.loop-state.elements (omega arith))
 
 pub offset_bounds-elements-count : goal.offset_bounds-elements-count
-offset_bounds-elements-count c = omega (arith, tracing-room c.loop-k.invariant (omega (arith, c.requires.n_bound)) c.requires.states_len_bound c.loop-k-test.true c.is_barred.ensures (c.if-not-is_barred.true))
+offset_bounds-elements-count c = omega (arith, tracing-room c.loop-state.invariant c.requires c.loop-state-test.true c.is_barred.ensures (c.if-not-is_barred.true))
 
 pub bounds-elements-count : goal.bounds-elements-count
-bounds-elements-count c = tracing-room c.loop-k.invariant (omega (arith, c.requires.n_bound)) c.requires.states_len_bound c.loop-k-test.true c.is_barred.ensures (c.if-not-is_barred.true)
+bounds-elements-count c = tracing-room c.loop-state.invariant c.requires c.loop-state-test.true c.is_barred.ensures (c.if-not-is_barred.true)
 
 pub overflow_add-count : goal.overflow_add-count
-overflow_add-count c = omega (arith, tracing-few c.loop-k.invariant (omega (arith, c.requires.n_bound)) c.requires.states_len_bound)
+overflow_add-count c = omega (arith, tracing-few c.loop-state.invariant c.requires)
 
-pub overflow_step-k : goal.overflow_step-k
-overflow_step-k c = omega arith
-
-pub loop-k-smaller : goal.loop-k-smaller
-loop-k-smaller c = omega arith
-
-pub loop-k-preserved : goal.loop-k-preserved
-loop-k-preserved c = let t = c.loop-k.invariant in
-    let low = c.loop-k-test.true in
-    let told = c.is_barred.ensures in
+pub loop-state-preserved : goal.loop-state-preserved
+loop-state-preserved c =
     elim c.if-not-is_barred.branch [
-      | then-not-is_barred w ↦ rw (w.elements-is, w.count-is) (tracing-more t (omega (arith, c.requires.n_bound)) c.requires.states_len_bound low told w.if-not-is_barred.true)
-      | else-not-is_barred w ↦ rw (w.elements-is, w.count-is) (tracing-same t (omega (arith, c.requires.n_bound)) c.requires.states_len_bound low told w.if-not-is_barred.false)
+      | then-not-is_barred w ↦ rw (w.elements-is, w.count-is) (tracing-more c.loop-state.invariant c.requires c.loop-state-test.true c.is_barred.ensures w.if-not-is_barred.true)
+      | else-not-is_barred w ↦ rw (w.elements-is, w.count-is) (tracing-same c.loop-state.invariant c.requires c.loop-state-test.true c.is_barred.ensures w.if-not-is_barred.false)
     ]
 
 pub returns : goal.returns
-returns c = tracing-done c.loop-k.invariant c.loop-k-test.false
+returns c = tracing-done c.loop-state.invariant c.loop-state-test.false

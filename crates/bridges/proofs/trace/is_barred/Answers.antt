@@ -1,12 +1,21 @@
 -- `bridges::trace::is_barred` meets its contract.
-use Rattle.bridges.proofs.Traced.{barred-previous, barred-next, barred-found}
+use mathlib.Core.Path.{◌∙◌}
+use mathlib.Core.Logic.{⊎_elim}
+use borrow.Author.Tests.{eq-eqb, ne_eqb}
+use Rattle.bridges.specs.Bridges.{barred}
+use Rattle.bridges.proofs.Among.{among-any}
+use Rattle.bridges.proofs.trace.is_barred.Goals.{then-element-previous, else-element-previous}
 use Rattle.bridges.proofs.trace.is_barred.Goals as goal
 
-pub returns-then-element-previous : goal.returns-then-element-previous
-returns-then-element-previous c = barred-previous _ _ _ _ c.if-element-previous.true
-
 pub returns-then-element-next : goal.returns-then-element-next
-returns-then-element-next c = barred-next _ _ _ _ c.if-element-previous.false c.if-element-next.true
+unfolding barred
+returns-then-element-next c = elim c.if-element-previous.branch [
+  | then-element-previous w ↦ rw (w.t-7-is, eq-eqb _ _ w.if-element-previous.true)
+  | else-element-previous w ↦
+      rw (w.t-7-is, ne_eqb _ _ w.if-element-previous.false)
+      (⊎_elim (λ e. absurd (w.if-element-previous.false e)) (λ e. rw (eq-eqb _ _ e.1)) c.if-element-next.either)
+]
 
-pub returns : goal.returns
-returns c = barred-found _ _ _ _ c.if-element-previous.false c.if-element-next.false c.is_among.ensures
+pub returns-else-element-next : goal.returns-else-element-next
+unfolding barred
+returns-else-element-next c = rw (ne_eqb _ _ c.if-element-next.false.0, ne_eqb _ _ c.if-element-next.false.1) (c.contains.ensures.value ∙ among-any _ _)
