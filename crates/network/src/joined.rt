@@ -1,7 +1,7 @@
 // Whether an external edge leads from some nodes to others, by the relations themselves: nothing is compiled for it.
 ghost use Rattle.std.specs.Prelude.{◌≡◌, ◌≤◌, length};
 ghost use Rattle.network.specs.Graph.{relations_at, links_of};
-ghost use Rattle.network.specs.inner.Sound.{RelationsFit, WindowsFit, FieldsOf32Bits};
+ghost use Rattle.network.specs.inner.Sound.{RelationsFit, WindowsFit};
 ghost use Rattle.network.specs.inner.Nodes.{within, side_nodes, element_nodes, link_leads, relation_leads, joined};
 
 use crate::lent::Network;
@@ -51,7 +51,6 @@ fn link_leads(sources: Nodes, targets: Nodes, l: Link) -> bool
 
 #[tactic(auto, unfolding(crate::specs::inner::Nodes::relation_leads))]
 fn relation_leads(elements: usize, sources: Nodes, targets: Nodes, r: Relation) -> bool
-    requires { FieldsOf32Bits r }
     ensures { result ≡ relation_leads elements sources targets r }
 {
     link_leads(sources, targets, link_ahead(elements, r))

@@ -30,13 +30,6 @@ pub record SoundGraph (g : Graph) : Type 0 where
   pub lengths : (i : ℕ) → i < element_count g → T (length_fits (get_or g.lengths i nan))
   pub lands : (v u : ℕ) → External g v u → u < 2 * element_count g
 
--- the fields of a relation are of 32 bits
-pub record FieldsOf32Bits (r : Relation) : Type 0 where
-  pub from : r.from ≤ 4294967295
-  pub to : r.to ≤ 4294967295
-  pub from_side : r.from_side ≤ 4294967295
-  pub to_side : r.to_side ≤ 4294967295
-
 pub record SidesBelowTwo (r : Relation) : Type 0 where
   pub from_side : r.from_side ≤ 1
   pub to_side : r.to_side ≤ 1

@@ -13,19 +13,19 @@ loop-k-init c = (search rules, added_none _ c.requires.lengths_bound _ (relation
 pub add_link-requires-clause-nodes_bound : goal.add_link-requires-clause-nodes_bound
 unfolding relations_at
 add_link-requires-clause-nodes_bound c =
-    behind-fits _ c.requires.lengths_bound _ (relations-at-fit _ _ _ c.requires.relations_fit.0) _ c.loop-k-test.true (search rules) c.relation_at-r.ensures.value (search rules)
+    behind-fits _ c.requires.lengths_bound _ (relations-at-fit _ _ _ c.requires.relations_fit.0) _ c.loop-k-test.true (search rules) c.relation_at-r.ensures (search rules)
 
 pub add_link-requires-in-loop-k-clause-nodes_bound : goal.add_link-requires-in-loop-k-clause-nodes_bound
 unfolding relations_at
 add_link-requires-in-loop-k-clause-nodes_bound c =
-    ahead-fits _ c.requires.lengths_bound _ (relations-at-fit _ _ _ c.requires.relations_fit.0) _ c.loop-k-test.true (search rules) c.relation_at-r.ensures.value (search rules)
+    ahead-fits _ c.requires.lengths_bound _ (relations-at-fit _ _ _ c.requires.relations_fit.0) _ c.loop-k-test.true (search rules) c.relation_at-r.ensures (search rules)
 
 pub loop-k-preserved : goal.loop-k-preserved
 unfolding relations_at
 loop-k-preserved c = (
   search rules,
-  added-ahead _ c.requires.lengths_bound _ (relations-at-fit _ _ _ c.requires.relations_fit.0) _ c.loop-k-test.true (search rules) c.relation_at-r.ensures.value _ _
-      (added-behind _ c.requires.lengths_bound _ (relations-at-fit _ _ _ c.requires.relations_fit.0) _ c.loop-k-test.true (search rules) c.relation_at-r.ensures.value _ _ c.loop-k.invariant.1 (search rules) c.add_link.ensures.heads c.add_link.ensures.links)
+  added-ahead _ c.requires.lengths_bound _ (relations-at-fit _ _ _ c.requires.relations_fit.0) _ c.loop-k-test.true (search rules) c.relation_at-r.ensures _ _
+      (added-behind _ c.requires.lengths_bound _ (relations-at-fit _ _ _ c.requires.relations_fit.0) _ c.loop-k-test.true (search rules) c.relation_at-r.ensures _ _ c.loop-k.invariant.1 (search rules) c.add_link.ensures.heads c.add_link.ensures.links)
       (search rules) c.add_link-in-loop-k.ensures.heads c.add_link-in-loop-k.ensures.links,
 )
 

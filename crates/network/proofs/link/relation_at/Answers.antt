@@ -4,6 +4,6 @@ use Rattle.network.specs.Graph.{flag_at}
 use Rattle.network.proofs.Minutes.{relation-at-minute}
 use Rattle.network.proofs.link.relation_at.Goals as goal
 
-pub returns-clause-value : goal.returns-clause-value
+pub returns : goal.returns
 unfolding flag_at
-returns-clause-value c = rw (relation-at-minute _ _ _ c.requires.relations_fit.0 _ c.requires.k_in_bounds) (search rules)
+returns c = rw (relation-at-minute _ _ _ c.requires.relations_fit.0 _ c.requires.k_in_bounds) (search rules)
