@@ -1,7 +1,7 @@
 // Whether an external edge leads from some nodes to others, by the relations themselves: nothing is compiled for it.
-ghost use Rattle.std.specs.Prelude.{◌≡◌, ◌≤◌, length};
-ghost use Rattle.network.specs.Graph.{relations_at, links_of};
-ghost use Rattle.network.specs.inner.Sound.{RelationsFit, WindowsFit};
+ghost use Rattle.std.specs.Prelude.{◌≡◌, ◌≤◌};
+ghost use Rattle.network.specs.Graph.{graph};
+ghost use Rattle.network.specs.inner.Sound.{NetworkFits};
 ghost use Rattle.network.specs.inner.Nodes.{within, side_nodes, element_nodes, link_leads, relation_leads, joined};
 
 use crate::lent::Network;
@@ -59,8 +59,8 @@ fn relation_leads(elements: usize, sources: Nodes, targets: Nodes, r: Relation) 
 
 // Whether a relation's link leads at a minute from one of the sources to one of the targets.
 pub fn are_joined(net: &Network<'_>, minute: u32, sources: Nodes, targets: Nodes) -> bool
-    requires { RelationsFit net.now.relations × WindowsFit net.now.windows }
-    ensures { result ≡ joined (links_of (length net.now.lengths) (relations_at net.now.windows minute net.now.relations)) sources targets }
+    requires { NetworkFits net.now }
+    ensures { result ≡ joined (graph net.now minute).links sources targets }
 {
     let elements = net.lengths.len();
     (0..net.relations.from.len()).any(|k| relation_leads(

@@ -2,7 +2,7 @@
 use Rattle.std.specs.Prelude.{ℕ, ◌*◌, ◌<◌, ◌≤◌, ◌≡◌, T, length, get_or}
 use Rattle.std.specs.Float.{nan}
 use Rattle.network.specs.declared.link.Relation.{Relation}
-use Rattle.network.specs.Network.{Relations, Windows, length_fits, window_count}
+use Rattle.network.specs.Network.{Relations, Windows, Network, length_fits, window_count}
 use Rattle.network.specs.Graph.{Graph, element_count}
 use Rattle.network.specs.Walks.{External}
 
@@ -23,6 +23,10 @@ pub record WindowsFit (w : Windows) : Type 0 where
   pub firsts : length w.firsts ≡ 4 * length w.counts
   pub lasts : length w.lasts ≡ 4 * length w.counts
   pub few : (k : ℕ) → window_count w k ≤ 4
+
+-- what checks 1 and 4 give of both
+abbrev pub NetworkFits : Network → Type 0
+NetworkFits net = RelationsFit net.relations × WindowsFit net.windows
 
 -- no more elements than the limit, lengths in their range, and external edges that lead to sides of the elements alone
 pub record SoundGraph (g : Graph) : Type 0 where

@@ -1,9 +1,7 @@
 -- `network::check::counts_below` meets its contract.
 use Rattle.std.proofs.Common.{rules, leb, ◌∙◌}
-use Rattle.std.specs.Float.{nan}
 use Rattle.std.proofs.lemmas.Iterator.{YieldsList-from_slice}
 use Rattle.lists.proofs.Chains.{all-entries, folded-all}
-use Rattle.network.specs.Network.{length_fits, lengths_fit, heading_fits, headings_fit}
 use Rattle.network.proofs.check.counts_below.Goals as goal
 
 pub returns : goal.returns

@@ -1,5 +1,5 @@
 -- `network::check::elements_differ` meets its contract.
-use Rattle.std.proofs.Common.{rules, ℕ, Bool, leb, nat_eq, not, ◌&&◌, ◌∙◌}
+use Rattle.std.proofs.Common.{rules, ℕ, Bool, nat_eq, not, ◌∙◌}
 use Rattle.std.proofs.lemmas.Iterator.{YieldsList-from_slice, YieldsList-from_zip}
 use Rattle.lists.proofs.Chains.{all-pairs, folded-all}
 use Rattle.network.specs.Network.{elements_differ}

@@ -1,9 +1,9 @@
 -- `network::check::headings_fit` meets its contract.
-use Rattle.std.proofs.Common.{rules, leb, ◌∙◌}
+use Rattle.std.proofs.Common.{rules, ◌∙◌}
 use Rattle.std.specs.Float.{nan}
 use Rattle.std.proofs.lemmas.Iterator.{YieldsList-from_slice}
 use Rattle.lists.proofs.Chains.{all-entries, folded-all}
-use Rattle.network.specs.Network.{length_fits, lengths_fit, heading_fits, headings_fit}
+use Rattle.network.specs.Network.{heading_fits, headings_fit}
 use Rattle.network.proofs.check.headings_fit.Goals as goal
 
 pub returns : goal.returns

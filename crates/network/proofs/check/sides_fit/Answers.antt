@@ -1,5 +1,5 @@
 -- `network::check::sides_fit` meets its contract.
-use Rattle.std.proofs.Common.{rules, ℕ, Bool, leb, nat_eq, not, ◌&&◌, ◌∙◌}
+use Rattle.std.proofs.Common.{rules, ℕ, Bool, leb, ◌&&◌, ◌∙◌}
 use Rattle.std.proofs.lemmas.Iterator.{YieldsList-from_slice, YieldsList-from_zip}
 use Rattle.lists.proofs.Chains.{all-pairs, folded-all}
 use Rattle.network.specs.Network.{sides_fit}

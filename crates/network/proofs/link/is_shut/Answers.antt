@@ -1,5 +1,5 @@
 -- `network::link::is_shut` meets its contract.
-use Rattle.std.proofs.Common.{rules, arith, leb, ltb, ℕ, ◌&&◌, ◌∙◌, sym}
+use Rattle.std.proofs.Common.{rules, arith, leb, ltb, ℕ, ◌&&◌, ◌∙◌}
 use Rattle.std.proofs.lemmas.Iterator.{YieldsList-from_range}
 use Rattle.std.proofs.lemmas.Iterator.Search.{any_from_yields_List}
 use Rattle.lists.proofs.Chains.{any-numbers}
