@@ -8,7 +8,7 @@ use Rattle.segments.specs.declared.segment.Segment.{Segment}
 use Rattle.segments.specs.declared.build.Building.{Building}
 use Rattle.segments.specs.Segment.{zero_segment}
 use Rattle.segments.specs.inner.Trail.{groups_left}
-use Rattle.segments.specs.Build.{BuildOutcome, bridge, built, building}
+use Rattle.segments.specs.Build.{bridge, built, building}
 
 -- bridges that begin at a group
 abbrev pub bridges_at : Option NetelementGroup → List ℕ → List Segment
@@ -41,14 +41,11 @@ pub record SegmentsLeft (net : Network) (s : List ℕ) (b : Building) (group : N
   pub stands : BuildingStands net s b
   pub more : b.trail.group ≡ Some group
 
--- before the first turn, where the call's outcome is known: it is the list that is to come, and the buffer has room for it
-pub record OpenedOn (outcome : BuildOutcome) (net : Network) (s : List ℕ) (room : ℕ) (b : Building) : Type 0 where
+-- before the first turn: the call's outcome is the list that is to come, and the buffer has room for it
+pub record Opened (net : Network) (s : List ℕ) (room : ℕ) (b : Building) : Type 0 where
   pub stands : BuildingStands net s b
   pub within : b.left ≤ room
-  pub whole : outcome ≡ Ok (to_come net s b)
-
-abbrev pub Opened : Network → List ℕ → ℕ → Building → Type 0
-Opened net s room b = OpenedOn (building net s room) net s room b
+  pub whole : building net s room ≡ Ok (to_come net s b)
 
 -- a turn: the last of those to come is worked out
 pub record SegmentTaken (net : Network) (s : List ℕ) (b r : Building) : Type 0 where
