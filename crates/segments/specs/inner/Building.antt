@@ -31,7 +31,7 @@ nothing_left = record {
 -- on an accepted network as many are left as are to come, and the walk stands at a place of the journal
 pub record BuildingStands (net : Network) (s : List ℕ) (b : Building) : Type 0 where
   pub accepted : checked net ≡ Ok tt
-  pub reached : {g : NetelementGroup} → b.trail.group ≡ Some g → Reached s b.trail.back
+  pub reached : (g : NetelementGroup) → b.trail.group ≡ Some g → Reached s b.trail.back
   pub left : b.left ≡ length (to_come net s b)
   pub waits : b.waiting ≤ length b.trail.bridges.elements
   pub few : b.waiting ≤ 1024
