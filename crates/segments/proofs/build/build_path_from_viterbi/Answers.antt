@@ -1,6 +1,31 @@
 -- `segments::build::build_path_from_viterbi` meets its contract.
+use mathlib.Core.Path.{refl, sym}
+use Rattle.std.proofs.Common.{rules}
+use Rattle.std.proofs.lemmas.Result.{err_from_is_err_and}
+use Rattle.segments.specs.Build.{build_answer, segments_stored}
 use Rattle.segments.proofs.BuildStoring.{storing-begin, turn_at, turn-less, storing-turn, storing-end}
 use Rattle.segments.proofs.build.build_path_from_viterbi.Goals as goal
 
+pub returns-in_err-b : goal.returns-in_err-b
+unfolding build_answer segments_stored
+returns-in_err-b c =
+    let p = err_from_is_err_and c.from_residual.result c.from_residual.ensures.1 in
+    rw (p.1, p.2, c.in_err-b.ensures.refused) (refl, refl)
+
 pub loop-b-init : goal.loop-b-init
-loop-b-init c = ?
+loop-b-init c = storing-begin _ _ _ _ c.in_ok-b.ensures.begun
+
+pub next-b-requires : goal.next-b-requires
+next-b-requires c = record { stands = c.loop-b.invariant.stands; more = c.in-Some.is }
+
+pub bounds-segments-b : goal.bounds-segments-b
+bounds-segments-b c = turn_at _ _ _ _ _ _ c.loop-b.invariant _ c.next-b.ensures
+
+pub loop-b-smaller : goal.loop-b-smaller
+loop-b-smaller c = turn-less _ _ _ _ _ _ c.loop-b.invariant _ c.next-b.ensures
+
+pub loop-b-preserved : goal.loop-b-preserved
+loop-b-preserved c = storing-turn _ _ _ _ _ _ c.loop-b.invariant _ c.next-b.ensures
+
+pub returns : goal.returns
+returns c = (sym c.loop-b.invariant.answer, storing-end _ _ _ _ _ _ c.loop-b.invariant (search rules))
