@@ -19,7 +19,8 @@ use Rattle.rows.specs.Row.{StepScore, StepsAt, offer, broken, scored, row, rows}
 use Rattle.bridges.specs.Bridges.{cheapest_of, between_sides, known_route, elements_between}
 use Rattle.decoder.specs.Closing.{Pairs, Closed, nothing, path, follow, close_at, closing}
 use Rattle.groups.specs.declared.group.NetelementGroup.{NetelementGroup}
-use Rattle.groups.specs.Groups.{State, state_at, alone, with_state, before, groups, groups_closed}
+use Rattle.groups.specs.declared.group.State.{State}
+use Rattle.groups.specs.Groups.{state_at, alone, with_state, before, groups, groups_closed}
 use Rattle.segments.specs.declared.segment.Segment.{Segment}
 use Rattle.segments.specs.Build.{segment_of, bridge, built, path_segments}
 use Rattle.segments.specs.Plain.{timeless_fix, timeless_row, plain_graph, plain_track, plain_steps, plain_between, plain_built, plain_segments, AsBefore}
