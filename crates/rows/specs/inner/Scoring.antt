@@ -1,5 +1,5 @@
 -- The row of a fix as the code comes by it: the predecessor is read from its record, and parents and scores go into two slices.
-use Rattle.std.specs.Prelude.{ℕ, zero, suc, ◌+◌, ◌*◌, ◌<◌, ◌≤◌, ◌≡◌, Bool, true, cond, List, length, get_or, drop, Float, Option, Some, None}
+use Rattle.std.specs.Prelude.{ℕ, zero, suc, ◌+◌, ◌*◌, ◌<◌, ◌≤◌, ◌≡◌, Bool, true, false, cond, List, length, get_or, drop, Float, Option, Some, None}
 use Rattle.std.proofs.Math.Option.{Option as Maybe, none, some}
 use Rattle.std.specs.Option.{unwrap_or}
 use Rattle.std.specs.Float.{nan, inf}
@@ -10,9 +10,9 @@ use Rattle.network.specs.Graph.{element_count}
 use Rattle.transition.specs.Track.{Track}
 use Rattle.journal.specs.Row.{Fix, Row, no_parent, candidate_count, candidate_of, row_size, cell_of, score_of, before_of}
 use Rattle.journal.specs.Record.{first_cell, read_row}
-use Rattle.journal.specs.declared.record.Candidate.{Candidate}
 use Rattle.transition.specs.inner.Track.{TrackFits}
-use Rattle.rows.specs.Row.{StepScore, Scored, first_best, break_score, floored_log, floored, sum_through, is_possible, offer, scored}
+use Rattle.rows.specs.inner.Sides.{PairRoutes}
+use Rattle.rows.specs.Row.{StepScore, Scored, first_best, break_score, floored_log, is_possible, offer, scored}
 use Rattle.rows.specs.declared.previous.Previous.{Previous}
 
 -- ---- the predecessor in its record, at the head of the words
@@ -52,9 +52,15 @@ later_best b j s = cond (le b.score s) (record { candidate = j; score = s }) b
 
 -- ---- offers
 
--- of candidate j of the predecessor to own candidate b at their distance
-unfoldable pub offer_to : StepScore → Row → Candidate → Float → ℕ → Option Float
-offer_to step p b distance j = sum_through (score_of p j) (step (cell_of p j).candidate b distance) (floored b)
+-- what is asked: a track that fits, a fix and a predecessor with known elements, a distance for each pair, and a table that holds the routes
+pub record Offerable (t : Track) (f : Fix) (words : List ℕ) (before : ℕ) (found : List Float) : Type 0 where
+  pub fits : TrackFits t
+  pub some-before : 0 < before
+  pub element : (k : ℕ) → k < candidate_count f → (candidate_of f k).element < element_count t.graph
+  pub distances : length f.distances ≡ candidate_count f * before
+  pub predecessor : RecordKnown (element_count t.graph) words before
+  pub room : 2 * before * (2 * candidate_count f) ≤ length found
+  pub held : PairRoutes t.graph (read_row words) before f.candidates found
 
 -- the best so far and the offer of candidate j: the first of equals
 unfoldable pub better_offer : Option Previous → ℕ → Option Float → Option Previous
@@ -67,11 +73,27 @@ better_offer b j (Some v) =
 unfoldable pub best_offer : (ℕ → Option Float) → ℕ → Option Previous
 best_offer g n = cond (any_below n (λ j. is_possible (g j))) (Some (previous_of (first_best g n))) None
 
+-- whether one of the predecessor's `before` candidates has a possible offer to one of the fix's
+abbrev pub any_offer : StepScore → Row → Fix → ℕ → Bool
+any_offer step p f before = any_below (candidate_count f) (λ i. any_below before (λ j. is_possible (offer step p f i j)))
+
 -- ---- a broken row
 
 -- (best previous + -23.0) + floored log
 unfoldable pub broken_score : Float → Float → Float
 broken_score best raw_log = best ⊕ break_score ⊕ floored_log raw_log
+
+-- ---- the candidates of a row, by value
+
+-- a list of 16: where each of the first n comes through, and its score
+pub record Listed (n : ℕ) (found : ℕ → Scored) (row : List Previous) : Type 0 where
+  pub long : length row ≡ 16
+  pub each : (k : ℕ) → k < n → get_or row k no_previous ≡ previous_of (found k)
+
+-- as the best offers of the predecessor are; none if no offer is possible
+abbrev pub BestOffers : StepScore → Row → Fix → ℕ → Option (List Previous) → Type 0
+BestOffers step p f before None = any_offer step p f before ≡ false
+BestOffers step p f before (Some row) = (any_offer step p f before ≡ true) × Listed (candidate_count f) (λ i. first_best (offer step p f i) before) row
 
 -- ---- what the two slices hold
 
@@ -83,11 +105,6 @@ pub record Filled (n : ℕ) (found : ℕ → Scored) (parents₀ : List ℕ) (sc
   pub score : (k : ℕ) → k < n → get_or scores k nan ≡ (found k).1
   pub parents-past : drop n parents ≡ drop n parents₀
   pub scores-past : drop n scores ≡ drop n scores₀
-
--- after the offers of the predecessor's `before` candidates to the first n of the fix's: whether one was possible, and the best ones
-pub record Offered (n : ℕ) (step : StepScore) (p : Row) (f : Fix) (before : ℕ) (possible : Bool) (parents₀ : List ℕ) (scores₀ : List Float) (parents : List ℕ) (scores : List Float) : Type 0 where
-  pub to-any : possible ≡ any_below n (λ i. any_below before (λ j. is_possible (offer step p f i j)))
-  pub filled : Filled n (λ i. first_best (offer step p f i) before) parents₀ scores₀ parents scores
 
 -- ---- scoring a row
 

@@ -1,23 +1,11 @@
 -- `rows::row::first_row` meets its contract.
-use mathlib.Core.Path.{refl, ap}
 use native.Mathlib.Omega.{arith}
-use Rattle.journal.specs.declared.record.Candidate.{Candidate}
 use Rattle.journal.proofs.Gathered.{count-in}
-use Rattle.rows.proofs.Filled.{filled_none, filled-turn, filled-done}
+use Rattle.rows.proofs.Filled.{listed_none, listed-turn, listed-done}
 use Rattle.rows.proofs.row.first_row.Goals as goal
 
-pub loop-i-init : goal.loop-i-init
-loop-i-init c = filled_none _ _ _
-
-pub bounds-parents-i : goal.bounds-parents-i
-bounds-parents-i c = omega (arith, count-in _ c.requires.0)
-
-pub bounds-scores-i : goal.bounds-scores-i
-bounds-scores-i c = omega (arith, count-in _ c.requires.0)
-
 pub loop-i-preserved : goal.loop-i-preserved
-loop-i-preserved c = let many = count-in _ c.requires.0 in
-    filled-turn _ _ c.loop-i.invariant (omega (arith, many)) (omega (arith, many)) refl (ap (λ (b : Candidate). b.raw_log) c.own_candidate-b.ensures)
+loop-i-preserved c = listed-turn c.loop-i.invariant (omega arith) (rw c.own_candidate-b.ensures)
 
 pub returns : goal.returns
-returns c = filled-done c.loop-i.invariant (omega (arith, count-in _ c.requires.0))
+returns c = listed-done c.loop-i.invariant (omega (arith, count-in _ c.requires))

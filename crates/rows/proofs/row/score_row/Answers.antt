@@ -1,17 +1,32 @@
 -- `rows::row::score_row` meets its contract.
+use mathlib.Core.Path.{ap}
 use native.Mathlib.Omega.{arith}
-use Rattle.rows.proofs.Rows.{first-scored, offers-scored, broken-scored}
+use Rattle.rows.specs.declared.previous.Previous.{Previous}
+use Rattle.journal.proofs.Gathered.{count-in}
+use Rattle.rows.proofs.Filled.{filled_none, filled-turn, filled-done, listed-at}
+use Rattle.rows.proofs.Rows.{first-scored, row-stored}
 use Rattle.rows.proofs.row.score_row.Goals as goal
+use Rattle.rows.proofs.row.score_row.Goals.{then-before-eq0, else-before-eq0}
 
-pub returns-then-before-eq0 : goal.returns-then-before-eq0
-returns-then-before-eq0 c = first-scored _ _ _ _ c.if-before-eq0.true c.first_row.ensures
+pub loop-i-init : goal.loop-i-init
+loop-i-init c = record {
+  listed = elim c.if-before-eq0.branch [
+    | then-before-eq0 w ↦ rw w.row-is (first-scored _ _ _ _ w.if-before-eq0.true w.first_row-row.ensures)
+    | else-before-eq0 w ↦ rw w.row-is w.next_row-row.ensures
+  ];
+  filled = filled_none _ _ _;
+}
 
-pub returns-else-not-possible : goal.returns-else-not-possible
-returns-else-not-possible c =
-    let stands = (c.requires.scorable.predecessor (omega arith)).stands in
-    offers-scored _ _ _ _ c.if-before-eq0.false stands c.offers_row-possible.ensures c.if-not-possible.false
+pub loop-i-preserved : goal.loop-i-preserved
+loop-i-preserved c =
+    let many = count-in _ c.requires.entries16 in
+    let asked = c.requires.scorable in
+    let here = listed-at _ c.loop-i.invariant.listed (omega (arith, many)) asked.few in
+    record {
+      listed = c.loop-i.invariant.listed;
+      filled = filled-turn _ _ c.loop-i.invariant.filled (omega (arith, many, asked.parents-long)) (omega (arith, many, asked.scores-long))
+          (ap (λ (b : Previous). b.candidate) here) (ap (λ (b : Previous). b.score) here);
+    }
 
-pub returns-then-not-possible : goal.returns-then-not-possible
-returns-then-not-possible c =
-    let stands = (c.requires.scorable.predecessor (omega arith)).stands in
-    broken-scored _ _ _ _ c.if-before-eq0.false stands c.offers_row-possible.ensures c.if-not-possible.true c.best_previous.ensures c.broken_row.ensures
+pub returns : goal.returns
+returns c = row-stored _ _ _ _ (filled-done c.loop-i.invariant.filled (omega (arith, count-in _ c.requires.entries16)))
