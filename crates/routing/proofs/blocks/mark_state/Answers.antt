@@ -1,6 +1,5 @@
 -- `routing::blocks::mark_state` meets its contract.
 use mathlib.Core.Path.{refl}
-use native.Mathlib.Omega.{arith}
 use Rattle.routing.proofs.Leaders.{led-marked}
 use Rattle.routing.proofs.blocks.mark_state.Goals as goal
 

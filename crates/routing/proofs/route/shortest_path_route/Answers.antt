@@ -1,5 +1,5 @@
 -- `routing::route::shortest_path_route` meets its contract.
-use mathlib.Core.Path.{refl, sym, ◌∙◌}
+use mathlib.Core.Path.{sym, ◌∙◌}
 use Rattle.std.proofs.lemmas.Result.{err_from_is_err_and}
 use Rattle.network.proofs.Accepted.{accepted-counts, accepted-relations, accepted-windows, accepted-sound}
 use Rattle.routing.specs.Route.{states_stored}

@@ -1,5 +1,5 @@
 -- `routing::states::states_between` meets its contract.
-use mathlib.Core.Path.{refl, sym, ap, ◌∙◌}
+use mathlib.Core.Path.{refl, ap}
 use native.Mathlib.Omega.{arith}
 use Rattle.network.specs.inner.Compiled.{Compiled, graph_in}
 use Rattle.routing.specs.Search.{Search}

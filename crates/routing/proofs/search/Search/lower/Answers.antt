@@ -1,5 +1,4 @@
 -- `routing::search::Search::lower` meets its contract.
-use native.Mathlib.Omega.{arith}
 use Rattle.binary64.proofs.Order.{taken}
 use Rattle.routing.specs.Search.{lower_cost}
 use Rattle.routing.proofs.search.Search.lower.Goals as goal

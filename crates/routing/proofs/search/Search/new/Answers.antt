@@ -1,6 +1,5 @@
 -- `routing::search::Search::new` meets its contract.
 use mathlib.Core.Path.{ap, sym, subst}
-use mathlib.Core.Bool.{false}
 use lib.ListN.{replicate}
 use lib.Ieee.{Float}
 use Rattle.routing.specs.Search.{search_of, no_costs, no_preds, no_marks}

@@ -1,10 +1,10 @@
 -- `routing::search::Search::relax_external` meets its contract.
-use mathlib.Core.Path.{refl, ap, ap₂, ◌∙◌}
+use mathlib.Core.Path.{refl, ap, ◌∙◌}
 use Prim.Native.Nat.{◌+◌, ◌-◌}
 use native.Mathlib.Omega.{arith}
 use lib.Ieee.{of_bits}
 use Rattle.network.specs.inner.Compiled.{Compiled}
-use Rattle.routing.specs.Search.{Tables, Search}
+use Rattle.routing.specs.Search.{Search}
 use Rattle.routing.proofs.Following.{left-all, left-lands, left-on, left-none, left_out}
 use Rattle.routing.proofs.search.Search.relax_external.Goals as goal
 

@@ -1,6 +1,6 @@
 -- What the loop of `routing::search::Search::relax_external` keeps.
 use mathlib.Core.Path.{◌≡◌}
-use Prim.Native.Nat.{◌*◌, ◌-◌, ◌≤◌}
+use Prim.Native.Nat.{◌-◌, ◌≤◌}
 use Rattle.network.specs.inner.Compiled.{chain}
 use Rattle.routing.specs.Search.{relax_external}
 use Rattle.routing.proofs.Following.{Left}
