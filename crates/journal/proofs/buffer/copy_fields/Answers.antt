@@ -2,7 +2,7 @@
 use mathlib.Core.Path.{refl}
 use native.Mathlib.Omega.{arith}
 use lib.ListN.{length-set}
-use Rattle.lists.proofs.Loops.{up_to-none, up_to-turn, up_to-done}
+use Rattle.lists.proofs.Loops.{up_to-none, up_to-turn}
 use Rattle.journal.proofs.buffer.copy_fields.Goals as goal
 
 pub loop-k-init : goal.loop-k-init
@@ -10,6 +10,3 @@ loop-k-init c = (omega arith, refl, up_to-none _ _)
 
 pub loop-k-preserved : goal.loop-k-preserved
 loop-k-preserved c = (omega arith, simp length-set c.loop-k.invariant.1, up_to-turn _ _ _ refl c.loop-k.invariant.2)
-
-pub returns : goal.returns
-returns c = up_to-done _ _ _ _ c.loop-k.invariant.2 (omega arith)

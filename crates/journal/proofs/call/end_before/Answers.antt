@@ -9,9 +9,6 @@ bounds-journal-0 c = some_words _ _ c.requires.reads
 pub loop-init : goal.loop-init
 loop-init c = (omega arith, ended-start _ _ c.requires)
 
-pub overflow_sub-at : goal.overflow_sub-at
-overflow_sub-at c = omega (arith, ended-room _ _ _ _ c.loop.invariant.1 c.loop-test.true)
-
 pub offset_bounds-journal-at : goal.offset_bounds-journal-at
 offset_bounds-journal-at c = omega (arith, ended-room _ _ _ _ c.loop.invariant.1 c.loop-test.true)
 

@@ -28,9 +28,6 @@ returns-then-journal-eq0 c =
       words_left = (refused _ c.if-journal-eq0.true).1;
     }
 
-pub bounds-journal-0 : goal.bounds-journal-0
-bounds-journal-0 c = omega arith
-
 pub returns : goal.returns
 returns c =
     record {

@@ -19,9 +19,6 @@ returns-in_default c = let i = c.loop-survey in
     let asked = record-asked _ i.survey c.read_row.ensures in
     walked-bad _ _ i.invariant c.loop-survey-test.true c.if-survey-eq65535.false (asked ∙ c.in_default.is)
 
-pub overflow_add-survey : goal.overflow_add-survey
-overflow_add-survey c = omega (arith, c.loop-survey.invariant.few)
-
 pub overflow_add-survey-in-loop-survey : goal.overflow_add-survey-in-loop-survey
 overflow_add-survey-in-loop-survey c = let i = c.loop-survey in
     let room = walked-room _ _ i.invariant c.loop-survey-test.true c.if-survey-eq65535.false _ (record-asked _ i.survey c.read_row.ensures ∙ c.in-Some.is) in

@@ -1,13 +1,9 @@
 -- `journal::fix::gather` meets its contract.
 use mathlib.Core.Path.{refl, sym, ap, ◌∙◌}
 use native.Mathlib.Omega.{arith}
-use lib.ListN.{length}
 use Rattle.journal.specs.Row.{Given}
-use Rattle.journal.proofs.Gathered.{gathered_none, gathered-turn, gathered-done, count-given, own-given}
+use Rattle.journal.proofs.Gathered.{gathered-turn, gathered-done, count-given, own-given}
 use Rattle.journal.proofs.fix.gather.Goals as goal
-
-pub loop-i-init : goal.loop-i-init
-loop-i-init c = (ap (λ (g : Given). length g.elements) c.fix.view_is, omega arith, gathered_none _ _ c.no_candidates-list.ensures)
 
 pub loop-i-preserved : goal.loop-i-preserved
 loop-i-preserved c = let loop = c.loop-i in

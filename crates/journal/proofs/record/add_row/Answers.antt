@@ -6,21 +6,6 @@ use Rattle.journal.specs.Record.{record_of}
 use Rattle.journal.proofs.Stores.{row_put}
 use Rattle.journal.proofs.record.add_row.Goals as goal
 
-pub offset_bounds-journal-used : goal.offset_bounds-journal-used
-offset_bounds-journal-used c = omega arith
-
-pub slice_bounds-put_row-count : goal.slice_bounds-put_row-count
-slice_bounds-put_row-count c = omega arith
-
-pub overflow_add-end : goal.overflow_add-end
-overflow_add-end c = omega arith
-
-pub overflow_cast-journal : goal.overflow_cast-journal
-overflow_cast-journal c = omega arith
-
-pub overflow_add-journal : goal.overflow_add-journal
-overflow_add-journal c = omega arith
-
 pub bounds-journal-0 : goal.bounds-journal-0
 unfolding record_of
 bounds-journal-0 c = omega (arith, c.requires.row_in_bounds, c.put_row-n.ensures.length_told)

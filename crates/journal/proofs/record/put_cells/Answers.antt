@@ -1,6 +1,6 @@
 -- `journal::record::put_cells` meets its contract.
 use native.Mathlib.Omega.{arith}
-use mathlib.Core.Path.{◌≡◌, refl, ◌∙◌}
+use mathlib.Core.Path.{◌≡◌, ◌∙◌}
 use lib.Seq.{take-length}
 use lib.ListN.{length}
 use Rattle.journal.specs.inner.Row.{cells_of}
@@ -8,30 +8,6 @@ use Rattle.journal.specs.inner.Fix.{candidates_in}
 use Rattle.journal.proofs.Gathered.{count-in}
 use Rattle.journal.proofs.Stores.{cells-many, cell-narrow, cells-turn}
 use Rattle.journal.proofs.record.put_cells.Goals as goal
-
-pub loop-k-init : goal.loop-k-init
-loop-k-init c = (refl, omega arith, refl, refl)
-
-pub own_candidate-c-requires : goal.own_candidate-c-requires
-own_candidate-c-requires c = (c.requires.entries16, omega (arith, c.loop-k-test.true))
-
-pub overflow_mul-k : goal.overflow_mul-k
-overflow_mul-k c = omega (arith, c.loop-k-test.true, c.requires.entries16.few)
-
-pub overflow_add-k : goal.overflow_add-k
-overflow_add-k c = omega (arith, c.loop-k-test.true, c.requires.entries16.few)
-
-pub offset_bounds-parents-k : goal.offset_bounds-parents-k
-offset_bounds-parents-k c = omega (arith, c.loop-k-test.true, c.requires.entries16.few)
-
-pub bounds-parents-k : goal.bounds-parents-k
-bounds-parents-k c = omega (arith, c.loop-k-test.true, c.requires.entries16.few)
-
-pub offset_bounds-scores-k : goal.offset_bounds-scores-k
-offset_bounds-scores-k c = omega (arith, c.loop-k-test.true, c.requires.entries16.few)
-
-pub bounds-scores-k : goal.bounds-scores-k
-bounds-scores-k c = omega (arith, c.loop-k-test.true, c.requires.entries16.few)
 
 pub put_cell-requires : goal.put_cell-requires
 put_cell-requires c =
@@ -45,20 +21,11 @@ put_cell-requires c =
       at_in_bounds = omega (arith, l, many, cells, loop.invariant.2, c.requires.cells_in_bounds);
     }
 
-pub overflow_step-k : goal.overflow_step-k
-overflow_step-k c = omega (arith, c.loop-k-test.true, c.requires.entries16.few)
-
-pub loop-k-smaller : goal.loop-k-smaller
-loop-k-smaller c = omega (arith, c.loop-k-test.true, c.requires.entries16.few)
-
 pub loop-k-preserved : goal.loop-k-preserved
 loop-k-preserved c = let a = c.args in
     let loop = c.loop-k in
     let l = c.loop-k-test.true in
     (loop.invariant.0, omega (arith, l), c.put_cell.auto.words ∙ loop.invariant.2, cells-turn _ a.parents.now a.scores.now a.words.now loop.words _ loop.k (omega (arith, l, count-in _ c.requires.entries16)) c.own_candidate-c.ensures loop.invariant.3 c.put_cell.ensures)
-
-pub shape_of-words : goal.shape_of-words
-shape_of-words c = c.loop-k.invariant.2
 
 pub returns : goal.returns
 returns c = let a = c.args in

@@ -1,16 +1,10 @@
 -- `journal::record::put_distances` meets its contract.
-use native.Mathlib.Numerals.{add-one}
 use native.Mathlib.Omega.{arith}
-use mathlib.Core.Path.{◌≡◌, refl, ◌∙◌}
+use mathlib.Core.Path.{refl, ◌∙◌}
 use lib.Ieee.{nan}
-use lib.Seq.{take-length}
-use lib.ListN.{length}
 use Rattle.journal.specs.Record.{float_words}
 use Rattle.journal.proofs.Stores.{stored-turn}
 use Rattle.journal.proofs.record.put_distances.Goals as goal
-
-pub loop-k-init : goal.loop-k-init
-loop-k-init c = (refl, refl)
 
 pub loop-k-preserved : goal.loop-k-preserved
 loop-k-preserved c = let i = c.loop-k in
@@ -18,8 +12,3 @@ loop-k-preserved c = let i = c.loop-k in
       c.put_float.auto.words ∙ i.invariant.0,
       c.put_float.ensures ∙ rw i.invariant.1 (stored-turn _ _ 2 i.k float_words ds nan (λ x. refl) (omega arith)),
     )
-
-pub returns : goal.returns
-returns c = let ds = c.args.distances.now in
-    let e : c.loop-k.k ≡ length ds = omega arith in
-    c.loop-k.invariant.1 ∙ rw (e, take-length ds, add-one)

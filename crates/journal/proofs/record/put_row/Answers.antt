@@ -26,40 +26,13 @@ long : (place : ℕ) (fix : Candidates) (ds : List Float) (ps : List ℕ) (ss : 
     → length (record_of place (row_of (fix_in fix ds) ps ss p)) ≡ record_length fix.count p
 long place fix ds ps ss p e = row-length place (row_of (fix_in fix ds) ps ss p) _ e.1.number (many fix e.0 ps ss)
 
-pub record_length-length-requires : goal.record_length-length-requires
-record_length-length-requires c = (omega (arith, c.requires.entries16.0.few), omega (arith, c.requires.entries16.1.before))
-
-pub overflow_cast-words : goal.overflow_cast-words
-overflow_cast-words c = omega arith
-
-pub overflow_add-words : goal.overflow_add-words
-overflow_add-words c = omega arith
-
-pub overflow_cast-words-2 : goal.overflow_cast-words-2
-overflow_cast-words-2 c = omega arith
-
-pub overflow_mul-words : goal.overflow_mul-words
-overflow_mul-words c = omega arith
-
-pub overflow_add-words-2 : goal.overflow_add-words-2
-overflow_add-words-2 c = omega arith
-
 pub bounds-words-0 : goal.bounds-words-0
 unfolding record_length
 bounds-words-0 c = omega (arith, long c.args.place c.args.fix c.args.distances.now c.args.parents.now c.args.scores.now c.args.p c.requires.entries16, c.requires.row_in_bounds.0)
 
-pub overflow_cast-words-3 : goal.overflow_cast-words-3
-overflow_cast-words-3 c = omega arith
-
-pub overflow_add-words-3 : goal.overflow_add-words-3
-overflow_add-words-3 c = omega arith
-
 pub bounds-words-1 : goal.bounds-words-1
 unfolding record_length
 bounds-words-1 c = simp length-set (omega (arith, long c.args.place c.args.fix c.args.distances.now c.args.parents.now c.args.scores.now c.args.p c.requires.entries16, c.requires.row_in_bounds.0))
-
-pub overflow_add-words-4 : goal.overflow_add-words-4
-overflow_add-words-4 c = omega (arith, c.requires.entries16.1.minute)
 
 pub bounds-words-2 : goal.bounds-words-2
 unfolding record_length
@@ -74,12 +47,6 @@ put_cells-requires c =
       cells_in_bounds = simp length-set (omega (arith, long c.args.place c.args.fix c.args.distances.now c.args.parents.now c.args.scores.now c.args.p c.requires.entries16, many c.args.fix c.requires.entries16.0 c.args.parents.now c.args.scores.now, c.requires.row_in_bounds.0));
     }
 
-pub overflow_mul-n : goal.overflow_mul-n
-overflow_mul-n c = omega arith
-
-pub overflow_add-n : goal.overflow_add-n
-overflow_add-n c = omega arith
-
 pub put_distances-requires : goal.put_distances-requires
 unfolding record_length
 put_distances-requires c =
@@ -89,26 +56,14 @@ put_distances-requires c =
       distances_len_bound = omega (arith, number c.args.fix c.args.distances.now c.args.parents.now c.args.scores.now c.args.p c.requires.entries16, product);
     }
 
-pub overflow_cast-words-4 : goal.overflow_cast-words-4
-overflow_cast-words-4 c = omega arith
-
-pub overflow_add-words-5 : goal.overflow_add-words-5
-overflow_add-words-5 c = omega arith
-
 pub overflow_sub-words : goal.overflow_sub-words
 unfolding record_length
 overflow_sub-words c = omega (arith, c.record_length-length.ensures.0)
-
-pub offset_bounds-words-length : goal.offset_bounds-words-length
-offset_bounds-words-length c = omega arith
 
 pub bounds-words-length : goal.bounds-words-length
 unfolding record_length
 bounds-words-length c =
     omega (arith, c.record_length-length.ensures.0, long c.args.place c.args.fix c.args.distances.now c.args.parents.now c.args.scores.now c.args.p c.requires.entries16, simp length-set at c.put_cells.auto.words, c.put_distances.auto.words, c.requires.row_in_bounds.0)
-
-pub shape_of-words : goal.shape_of-words
-shape_of-words c = simp (length-set, c.put_distances.auto.words, c.put_cells.auto.words)
 
 pub returns : goal.returns
 returns c =
