@@ -2,7 +2,7 @@
 use Prim.Native.Nat.{ℕ, zero, suc, ◌+◌, ◌*◌, ◌<◌}
 use native.Mathlib.Omega.{arith}
 use native.Mathlib.Nat.{mul-suc, mul-zero, add_comm, eq-or-lt_of_le}
-use mathlib.Core.Path.{◌≡◌, refl, sym, ap, ◌∙◌}
+use mathlib.Core.Path.{◌≡◌, refl, sym, ◌∙◌}
 use mathlib.Core.Bool.{Bool, true, false, cond}
 use mathlib.Core.List.{List, [], ◌∷◌, ◌++◌, append_assoc}
 use mathlib.Core.Option.{none, some}
@@ -13,9 +13,6 @@ use lib.ListN.{length, get_or, set, drop, length-append}
 use lib.Seq.{get_or-set_same, get_or-set_other}
 use lib.Ieee.Fits.{and_i, and_l, and_r}
 use Rattle.lists.specs.Lists.{number}
-use Rattle.std.specs.List.{list_all, range_with_len}
-use Rattle.lists.specs.Loops.{every_below}
-use Rattle.lists.proofs.Loops.{every_front, every-same}
 use Rattle.journal.specs.Lists.{each, flat, starts}
 use Rattle.journal.specs.WellFormed.{Each}
 
@@ -86,17 +83,6 @@ default-inside (a ∷ l) (suc i) d e h = default-inside l i d e (omega arith)
 pub set_below : {A : Type 0} (l : List A) (k : ℕ) (a d : A) (f : ℕ → A) → k < length l → ((i : ℕ) → i < k → get_or l i d ≡ f i) → a ≡ f k → (i : ℕ) → i < k + 1 → get_or (set l k a) i d ≡ f i
 set_below l k a d f h e q i m =
     ⊎_elim (λ (same : i ≡ k). rw same (get_or-set_same l k a d h ∙ q)) (λ (less : i < k). get_or-set_other l k i a d (omega arith) ∙ e i less) (eq-or-lt_of_le (omega arith))
-
--- what `all` finds of the numbers from a on, and of those below n
-all-from : (test : ℕ → Bool) (a n : ℕ) → list_all test (range_with_len a n) ≡ every_below n (λ k. test (a + k))
-unfolding every_below
-all-from test a zero = refl
-all-from test a (suc n) =
-    let zero-on : test (a + 0) ≡ test a = ap test (omega arith) in
-    rw (every_front n (λ k. test (a + k)), zero-on, all-from test (a + 1) n, every-same n (λ k. test (a + 1 + k)) (λ k. test (a + suc k)) (λ k. ap test (omega arith)))
-
-pub all-number : (test : ℕ → Bool) (n : ℕ) → list_all test (range_with_len 0 n) ≡ every_below n test
-all-number test n = all-from test 0 n ∙ every-same n (λ k. test (0 + k)) test (λ k. ap test (omega arith))
 
 -- ---- words of entries
 
