@@ -1,38 +1,37 @@
 // Reading standard input: a stretch of it at a time, the text, so that it may be of any length.
 // A line, with the comments before and in it, may take up to half of the text, and so may each word of a `load`; a word past that counts as missing.
+use crate::words::Words;
 use std::io::{self, Read, Stdin};
+use text::cursor::{Cursor, at_end, refuse, take_keyword};
+use text::keyword::Keyword;
+use text::list::first;
 use text::window::keep_rest;
 
-// The place of the next byte to be read, how many bytes of the text are filled, how many of them are whole words, whether the input has ended, and what
-// more of it is read from.
-#[derive(Clone, Copy)]
-pub struct Input {
-    pub at: usize,
-    pub filled: usize,
-    pub end: usize,
-    pub ended: bool,
-    pub stdin: Stdin,
+// The text, where reading stands in it, how many of its bytes are filled, how many of them are whole words, whether the input has ended, and what more
+// of it is read from.
+#[derive(Drop)]
+pub struct Input<'a> {
+    text: &'a mut [u8],
+    pub cursor: Cursor,
+    filled: usize,
+    whole: usize,
+    ended: bool,
+    stdin: Stdin,
 }
 
-pub fn no_input(stdin: Stdin) -> Input {
-    Input {
-        at: 0,
-        filled: 0,
-        end: 0,
-        ended: false,
-        stdin,
+// How many bytes there are up to the last blank: what follows it may be a part of a word.
+fn whole_words(text: &[u8]) -> usize {
+    match text.iter().rposition(|b| *b == b' ' || *b == b'\n') {
+        Some(last) => last + 1,
+        None => 0,
     }
 }
 
 // More of the input, behind the bytes that are there; answers how many there are then.
-fn read_behind(text: &mut [u8], filled: usize, stdin: Stdin) -> io::Result<usize> {
-    let mut reader = stdin;
+fn read_behind(text: &mut [u8], filled: usize, stdin: &mut Stdin) -> io::Result<usize> {
     let mut end = filled;
-    for _ in 0..u64::MAX {
-        if text.len() <= end {
-            break;
-        }
-        let got = reader.read(&mut text[end..])?;
+    while end < text.len() {
+        let got = stdin.read(&mut text[end..])?;
         if got == 0 {
             break;
         }
@@ -41,60 +40,90 @@ fn read_behind(text: &mut [u8], filled: usize, stdin: Stdin) -> io::Result<usize
     Ok(end)
 }
 
-fn is_blank(b: u8) -> bool {
-    b == 32 || b == 10
-}
-
-// How many bytes there are up to the last blank: what follows it may be a part of a word.
-fn whole_words(text: &[u8]) -> usize {
-    let mut n = text.len();
-    while 0 < n {
-        if is_blank(text[n - 1]) {
-            return n;
+impl<'a> Input<'a> {
+    pub fn new(text: &'a mut [u8], stdin: Stdin) -> Input<'a> {
+        Input {
+            text,
+            cursor: Cursor {
+                at: 0,
+                words: 0,
+                bad: false,
+            },
+            filled: 0,
+            whole: 0,
+            ended: false,
+            stdin,
         }
-        n -= 1;
     }
-    n
-}
 
-// Whether so much room as a line may take is left from a place on, or all that there is.
-fn is_enough(input: Input, at: usize, room: usize) -> bool {
-    if input.ended {
-        return true;
+    // Whether so much room as a line may take is left, or all that there is.
+    fn is_enough(&self) -> bool {
+        let c = self.cursor;
+        self.ended || c.at <= self.filled && self.text.len() / 2 <= self.filled - c.at
     }
-    if at <= input.filled {
-        return room <= input.filled - at;
-    }
-    false
-}
 
-fn stays(input: Input, at: usize) -> Input {
-    let mut r = input;
-    r.at = at;
-    r
-}
+    // Where less than half of the text is left, that moves to the front and more is read behind it.
+    fn refill(&mut self) -> io::Result<()> {
+        if self.is_enough() {
+            return Ok(());
+        }
+        let left = keep_rest(self.text, self.cursor.at, self.filled);
+        self.filled = read_behind(self.text, left, &mut self.stdin)?;
+        self.cursor.at = 0;
+        self.ended = self.filled < self.text.len();
+        self.whole = if self.ended {
+            self.filled
+        } else {
+            whole_words(self.text)
+        };
+        Ok(())
+    }
 
-// The text is read up to a place. Where less than half of it is left, that moves to the front and more is read behind it.
-pub fn refill(text: &mut [u8], input: Input, at: usize) -> io::Result<Input> {
-    if is_enough(input, at, text.len() / 2) {
-        return Ok(stays(input, at));
+    // The whole words that were read of the text so far.
+    pub fn words(&self) -> Words<'_> {
+        Words {
+            text: first(self.text, self.whole),
+            cursor: self.cursor,
+        }
     }
-    let left = keep_rest(text, at, input.filled);
-    let filled = read_behind(text, left, input.stdin)?;
-    if filled < text.len() {
-        return Ok(Input {
-            at: 0,
-            filled,
-            end: filled,
-            ended: true,
-            stdin: input.stdin,
-        });
+
+    // The first word of the next line, from where the last one ended, with room for the whole of the line unless the input ends before. There is none
+    // where the input has ended, or where a word could not be read: that is an error.
+    pub fn next_line(&mut self) -> io::Result<Option<Keyword>> {
+        self.refill()?;
+        let ended = self.ended;
+        let words = self.words();
+        let taken = take_keyword(words.text, words.cursor);
+        match taken.value {
+            Keyword::Unknown => {
+                if !(ended && at_end(words.text, words.cursor)) {
+                    self.cursor = refuse(taken.cursor);
+                }
+                Ok(None)
+            }
+            keyword => {
+                self.cursor = taken.cursor;
+                Ok(Some(keyword))
+            }
+        }
     }
-    Ok(Input {
-        at: 0,
-        filled,
-        end: whole_words(text),
-        ended: false,
-        stdin: input.stdin,
-    })
+
+    // How many words a `load` tells.
+    pub fn load_count(&mut self, most: u32) -> usize {
+        let mut words = self.words();
+        let n = words.count(most);
+        self.cursor = words.cursor;
+        n as usize
+    }
+
+    // A word for each entry of the journal. They may take more than the text holds: more is read between two of them.
+    pub fn load(&mut self, journal: &mut [u32]) -> io::Result<()> {
+        for entry in journal {
+            self.refill()?;
+            let mut words = self.words();
+            *entry = words.hex_word();
+            self.cursor = words.cursor;
+        }
+        Ok(())
+    }
 }

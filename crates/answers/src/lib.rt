@@ -2,19 +2,17 @@
 // reads of the text, which call it makes, and what it prints.
 #![tactic(auto)]
 
+pub mod cuts;
 pub mod drive;
 pub mod fill;
 pub mod held_network;
-pub mod host;
 pub mod input;
-pub mod line;
 pub mod listing;
-pub mod load;
-pub mod memory;
-pub mod parts;
 pub mod path;
 pub mod print;
 pub mod replay;
 pub mod routes;
 pub mod row;
+pub mod session;
 pub mod setup;
+pub mod words;

@@ -1,71 +1,38 @@
 // Replaying the journal.
-use crate::held_network::{flags_of, headings_of, lengths_of, relations_of, windows_of};
-use crate::host::{
-    BACKWARD, Cuts, FORWARD, FROM, FROM_SIDE, Host, LENGTHS, TO, TO_SIDE, WINDOW_COUNTS,
-    WINDOW_FIRSTS, WINDOW_LASTS, release, settings_of, with_out,
-};
-use crate::print::{Output, end_line, print_bytes, print_digits, print_number};
-use replaying::replay::{Replayed, replay};
-
-fn ask_replay(h: Host, floats: &[f64], numbers: &[u32], journal: &[u32], cuts: &Cuts) -> Replayed {
-    replay(
-        lengths_of(h, floats, cuts),
-        headings_of(h, floats, cuts),
-        flags_of(h, numbers, cuts),
-        relations_of(h, numbers, cuts, FROM),
-        relations_of(h, numbers, cuts, TO),
-        relations_of(h, numbers, cuts, FROM_SIDE),
-        relations_of(h, numbers, cuts, TO_SIDE),
-        relations_of(h, numbers, cuts, FORWARD),
-        relations_of(h, numbers, cuts, BACKWARD),
-        relations_of(h, numbers, cuts, WINDOW_COUNTS),
-        windows_of(h, numbers, cuts, WINDOW_FIRSTS),
-        windows_of(h, numbers, cuts, WINDOW_LASTS),
-        settings_of(h),
-        journal,
-    )
-}
+use crate::print::Output;
+use crate::session::Session;
+use refusals::Refusal;
+use replaying::replay::replay;
+use text::keyword::Slice;
 
 // What replaying answers, with some bytes before the number of a row.
-fn print_replayed(out: &mut Output, start: usize, before: &[u8], answer: Replayed) -> usize {
+fn print_replayed(out: &mut Output, before: &[u8], answer: Result<Option<u32>, Refusal>) {
     match answer {
-        Replayed::Clean => print_bytes(out, start, b"clean\n"),
-        Replayed::Differs(row) => {
-            let named = print_bytes(out, start, before);
-            let numbered = print_digits(out, named, row);
-            end_line(out, numbered)
+        Ok(None) => out.bytes(b"clean\n"),
+        Ok(Some(row)) => {
+            out.bytes(before);
+            out.digits(row);
+            out.end_line();
         }
-        Replayed::Refused(k) => {
-            let told = print_bytes(out, start, b"refused");
-            let numbered = print_number(out, told, k);
-            end_line(out, numbered)
+        Err(refusal) => {
+            out.bytes(b"refused");
+            out.number(refusal.number());
+            out.end_line();
         }
     }
 }
 
-pub fn answer_replay(
-    h: Host,
-    floats: &[f64],
-    numbers: &[u32],
-    journal: &[u32],
-    cuts: &mut Cuts,
-    out: &mut Output,
-) -> Host {
-    let answer = ask_replay(h, floats, numbers, journal, cuts);
-    release(cuts, LENGTHS, WINDOW_LASTS + 1);
-    let named = print_bytes(out, h.out, b"replay ");
-    with_out(h, print_replayed(out, named, b"row ", answer))
-}
+impl Session {
+    pub fn replay(&mut self, journal: &[u32]) {
+        let answer = replay(&self.network.lend(&self.cuts), self.settings, journal);
+        self.cuts.release(Slice::Lengths, Slice::WindowLasts);
+        self.out.bytes(b"replay ");
+        print_replayed(&mut self.out, b"row ", answer);
+    }
 
-// The answer alone, on a line.
-pub fn tell_replay(
-    h: Host,
-    floats: &[f64],
-    numbers: &[u32],
-    journal: &[u32],
-    cuts: &Cuts,
-    out: &mut Output,
-) -> Host {
-    let answer = ask_replay(h, floats, numbers, journal, cuts);
-    with_out(h, print_replayed(out, h.out, b"", answer))
+    // The answer alone, on a line, of the whole network.
+    pub fn tell_replay(&mut self, journal: &[u32]) {
+        let answer = replay(&self.network.lend(&self.cuts), self.settings, journal);
+        print_replayed(&mut self.out, b"", answer);
+    }
 }

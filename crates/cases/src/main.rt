@@ -2,32 +2,27 @@
 #![tactic(auto)]
 
 mod building;
+mod cases;
 mod collapsing;
-mod held;
-mod line;
-mod lines;
+mod list;
 
-use answers::memory;
+use crate::cases::{Cases, JOURNAL_WORDS};
+use crate::list::List;
+use answers::input::Input;
+use answers::session::Session;
 use std::io;
 
+// A stretch of the input: twice what a line may take.
+const TEXT_BYTES: usize = 2097152;
+
 fn main(rt: HostRuntime) -> io::Result<()> {
-    let mut text = lines::new_text();
-    let mut floats = memory::new_floats();
-    let mut numbers = memory::new_numbers();
-    let mut journal = memory::new_journal();
-    let mut cuts = memory::new_cuts();
-    let mut held_numbers = held::new_held_numbers();
-    let mut held_intrinsics = held::new_held_intrinsics();
-    let mut out = memory::new_output(rt.stdout());
-    lines::run(
-        rt.stdin(),
-        &mut text,
-        &mut floats,
-        &mut numbers,
-        &mut journal,
-        &mut cuts,
-        &mut held_numbers,
-        &mut held_intrinsics,
-        &mut out,
-    )
+    let mut text = [0; TEXT_BYTES];
+    let mut input = Input::new(&mut text, rt.stdin());
+    let mut cases = Cases {
+        session: Session::new(rt.stdout()),
+        journal: [0; JOURNAL_WORDS],
+        words: 0,
+        list: List::empty(),
+    };
+    cases.run(&mut input)
 }

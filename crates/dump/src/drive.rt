@@ -1,94 +1,50 @@
 // The lines of a drive: its network with the windows, its settings, and its fixes with their minutes.
-use answers::drive::{list_words, read_feed};
-use answers::held_network::{NetworkFloats, NetworkNumbers, read_network};
-use answers::host::{Cuts, Host, with_cursor, with_out};
-use answers::line::{LINES, Line, next_line, no_line, words_of};
-use answers::memory::Journal;
-use answers::print::{Output, finish, print_error, print_refusal};
-use answers::setup::{read_minute, read_settings, set_windows};
-use journal::call::{Answer, open};
-use std::io::{self, Stdin};
-use text::cursor::refuse;
+use answers::drive::list_words;
+use answers::input::Input;
+use answers::session::Session;
+use answers::words::Words;
+use journal::call::open;
+use std::io;
 use text::keyword::Keyword;
 
-// A stretch of the input: twice what a line may take.
-const TEXT_BYTES: usize = 1048576;
-
-pub type Text = [u8; TEXT_BYTES];
-
-pub fn new_text() -> Text {
-    [0u8; TEXT_BYTES]
-}
-
 // A fix is fed. Only its refusal is told.
-fn feed_line(
-    text: &[u8],
-    h: Host,
-    floats: &[f64],
-    numbers: &[u32],
-    journal: &mut [u32],
-    cuts: &mut Cuts,
-    out: &mut Output,
-) -> Host {
-    let fed = read_feed(text, h, floats, numbers, journal, cuts);
-    let r = with_cursor(h, fed.cursor);
-    let answer = fed.answer;
-    match answer {
-        Answer::Done => r,
-        Answer::Refused(k) => with_out(r, print_refusal(out, r.out, b"feed", k)),
+fn feed_line(words: &mut Words<'_>, session: &mut Session, journal: &mut [u32]) {
+    if let Some(Err(refusal)) = session.read_feed(words, journal) {
+        session.out.refusal(b"feed", refusal);
     }
 }
 
 // A line is performed. Of the case language's other lines the first word counts as unreadable.
-fn perform(
-    line: Line,
-    text: &[u8],
-    floats: &mut NetworkFloats,
-    numbers: &mut NetworkNumbers,
-    journal: &mut [u32],
-    cuts: &mut Cuts,
-    out: &mut Output,
-) -> Host {
-    let h = line.host;
-    let words = words_of(line, text);
-    let keyword = line.keyword;
+fn perform(keyword: Keyword, words: &mut Words<'_>, session: &mut Session, journal: &mut [u32]) {
     match keyword {
-        Keyword::Network => read_network(words, h, floats, numbers),
-        Keyword::Windows => set_windows(words, h, numbers),
-        Keyword::Settings => read_settings(words, h),
-        Keyword::Minute => read_minute(words, h),
-        Keyword::Feed => feed_line(words, h, floats, numbers, journal, cuts, out),
-        _ => with_cursor(h, refuse(h.cursor)),
+        Keyword::Network => session.network.read(words),
+        Keyword::Windows => session.read_windows(words),
+        Keyword::Settings => session.read_settings(words),
+        Keyword::Minute => session.read_minute(words),
+        Keyword::Feed => feed_line(words, session, journal),
+        _ => words.refuse(),
     }
 }
 
-// Every line up to the input's end or a word that cannot be read, then the used words. Where reading fails, only what was told before it.
-pub fn run(
-    stdin: Stdin,
-    text: &mut Text,
-    floats: &mut NetworkFloats,
-    numbers: &mut NetworkNumbers,
-    journal: &mut Journal,
-    cuts: &mut Cuts,
-    out: &mut Output,
-) -> io::Result<()> {
-    open(journal);
-    let mut line = no_line(stdin);
-    for _ in 0..LINES {
-        match next_line(line, text) {
-            Ok(next) => line = next,
-            Err(e) => {
-                finish(out, line.host.out)?;
-                return Err(e);
-            }
-        }
-        if line.over {
+// Every line up to the input's end or a word that cannot be read, then the used words.
+fn drive(input: &mut Input<'_>, session: &mut Session, journal: &mut [u32]) -> io::Result<()> {
+    for _ in 0..u64::MAX {
+        let Some(keyword) = input.next_line()? else {
             break;
-        }
-        let host = perform(line, text, floats, numbers, journal, cuts, out);
-        line.host = host;
+        };
+        let mut words = input.words();
+        perform(keyword, &mut words, session, journal);
+        input.cursor = words.cursor;
     }
-    let h = list_words(line.host, journal, out);
-    let end = print_error(out, h.out, h.cursor);
-    finish(out, end)
+    list_words(journal, &mut session.out);
+    session.out.error(input.cursor);
+    Ok(())
+}
+
+// Where reading fails, only what was told before it.
+pub fn run(input: &mut Input<'_>, session: &mut Session, journal: &mut [u32]) -> io::Result<()> {
+    let _ = open(journal);
+    let read = drive(input, session, journal);
+    session.out.finish()?;
+    read
 }

@@ -1,84 +1,86 @@
 // The lines of the input: a network with its windows, settings, and at the end a journal.
-use crate::held::{MOST_WORDS, SHORT, refused, replay_long, replay_short, tell_none};
-use answers::held_network::{NetworkFloats, NetworkNumbers, read_network};
-use answers::line::{Line, next_line, no_line, with_host, words_of};
-use answers::load::take_load;
-use answers::print::{Output, finish, print_error};
-use answers::setup::{read_settings, set_windows};
-use std::io::{self, Stdin};
+use answers::input::Input;
+use answers::session::Session;
+use answers::words::Words;
+use std::io;
+use text::cursor::refuse;
 use text::keyword::Keyword;
 
-// A stretch of the input: twice what a line may take.
-const TEXT_BYTES: usize = 1048576;
+// How many words are taken in: 65,535 rows of 4 candidates have 4,259,744. Up to 700,000 stand in an array of that length, which a usual stack holds.
+const MOST_WORDS: u32 = 4300000;
 
-pub type Text = [u8; TEXT_BYTES];
+const LONG: usize = 4300000;
 
-pub fn new_text() -> Text {
-    [0u8; TEXT_BYTES]
-}
+const SHORT: usize = 700000;
 
 // A line before the journal is performed. Of the case language's other lines the first word counts as unreadable.
-fn set_up(
-    line: Line,
-    text: &[u8],
-    floats: &mut NetworkFloats,
-    numbers: &mut NetworkNumbers,
-) -> Line {
-    let h = line.host;
-    let words = words_of(line, text);
-    let keyword = line.keyword;
+fn set_up(keyword: Keyword, words: &mut Words<'_>, session: &mut Session) {
     match keyword {
-        Keyword::Network => with_host(line, read_network(words, h, floats, numbers)),
-        Keyword::Windows => with_host(line, set_windows(words, h, numbers)),
-        Keyword::Settings => with_host(line, read_settings(words, h)),
-        _ => refused(line),
+        Keyword::Network => session.network.read(words),
+        Keyword::Windows => session.read_windows(words),
+        Keyword::Settings => session.read_settings(words),
+        _ => words.refuse(),
     }
 }
 
-// Up to 2^k lines: one half of them, then the other. LLVM puts no large array into the frame of a function that calls itself, so that those of
-// `replay_short` and `replay_long` take stack only while they are needed.
-fn lines(
-    k: u32,
-    last: Line,
-    text: &mut Text,
-    floats: &mut NetworkFloats,
-    numbers: &mut NetworkNumbers,
-    out: &mut Output,
-) -> io::Result<Line> {
-    if last.over {
-        return Ok(last);
+// The answer, unless a word could not be read.
+fn tell(input: &Input<'_>, session: &mut Session, journal: &[u32]) {
+    let c = input.cursor;
+    if !c.bad {
+        session.tell_replay(journal);
     }
-    if 0 < k {
-        let half = lines(k - 1, last, text, floats, numbers, out)?;
-        return lines(k - 1, half, text, floats, numbers, out);
+}
+
+// The journal is read, and answered. It ends the input: a word behind it counts as unreadable.
+fn replay(input: &mut Input<'_>, session: &mut Session, journal: &mut [u32]) -> io::Result<()> {
+    input.load(journal)?;
+    if input.next_line()?.is_some() {
+        input.cursor = refuse(input.cursor);
     }
-    let line = next_line(last, text)?;
-    if line.over {
-        return Ok(tell_none(line, floats, numbers, out));
-    }
-    let keyword = line.keyword;
-    match keyword {
-        Keyword::Load => {
-            let count = take_load(line, text, MOST_WORDS);
-            if count.value <= SHORT {
-                return replay_short(line, text, count, floats, numbers, out);
+    tell(input, session, journal);
+    Ok(())
+}
+
+// Each array stands in the frame of a function of its own, so that it takes stack only where it is needed.
+#[inline(never)]
+fn replay_short(input: &mut Input<'_>, session: &mut Session, n: usize) -> io::Result<()> {
+    let mut journal = [0; SHORT];
+    replay(input, session, &mut journal[..n.min(SHORT)])
+}
+
+#[inline(never)]
+fn replay_long(input: &mut Input<'_>, session: &mut Session, n: usize) -> io::Result<()> {
+    let mut journal = [0; LONG];
+    replay(input, session, &mut journal[..n.min(LONG)])
+}
+
+// Every line up to the journal, the input's end or a word that cannot be read. Without a journal, one that has no words is answered.
+fn drive(input: &mut Input<'_>, session: &mut Session) -> io::Result<()> {
+    for _ in 0..u64::MAX {
+        let Some(keyword) = input.next_line()? else {
+            tell(input, session, &[]);
+            break;
+        };
+        match keyword {
+            Keyword::Load => {
+                let n = input.load_count(MOST_WORDS);
+                if n <= SHORT {
+                    return replay_short(input, session, n);
+                }
+                return replay_long(input, session, n);
             }
-            replay_long(line, text, count, floats, numbers, out)
+            _ => {
+                let mut words = input.words();
+                set_up(keyword, &mut words, session);
+                input.cursor = words.cursor;
+            }
         }
-        _ => Ok(set_up(line, text, floats, numbers)),
     }
+    Ok(())
 }
 
-// Every line up to the input's end or a word that cannot be read.
-pub fn run(
-    stdin: Stdin,
-    text: &mut Text,
-    floats: &mut NetworkFloats,
-    numbers: &mut NetworkNumbers,
-    out: &mut Output,
-) -> io::Result<()> {
-    let line = lines(64, no_line(stdin), text, floats, numbers, out)?;
-    let h = line.host;
-    let end = print_error(out, h.out, h.cursor);
-    finish(out, end)
+pub fn run(input: &mut Input<'_>, session: &mut Session) -> io::Result<()> {
+    drive(input, session)?;
+    session.out.error(input.cursor);
+    session.out.finish()
 }

@@ -2,15 +2,17 @@
 #![tactic(auto)]
 
 mod drive;
-mod held;
 
-use answers::memory;
+use answers::input::Input;
+use answers::session::Session;
 use std::io;
 
+// A stretch of the input: twice what a line may take.
+const TEXT_BYTES: usize = 1048576;
+
 fn main(rt: HostRuntime) -> io::Result<()> {
-    let mut text = drive::new_text();
-    let mut floats = memory::new_floats();
-    let mut numbers = memory::new_numbers();
-    let mut out = memory::new_output(rt.stdout());
-    drive::run(rt.stdin(), &mut text, &mut floats, &mut numbers, &mut out)
+    let mut text = [0; TEXT_BYTES];
+    let mut input = Input::new(&mut text, rt.stdin());
+    let mut session = Session::new(rt.stdout());
+    drive::run(&mut input, &mut session)
 }
