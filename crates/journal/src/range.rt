@@ -23,6 +23,7 @@ pub fn distance_ok(x: f64) -> bool
 }
 
 // A candidate in a network of `known` elements.
+#[tactic(auto, unfolding(crate::specs::Ranges::candidate_ok))]
 pub fn candidate_ok(c: Candidate, known: u32) -> bool
     ensures { result ≡ candidate_ok known c }
 {
