@@ -26,4 +26,4 @@ pub overflow_sub-result-2 : goal.overflow_sub-result-2
 overflow_sub-result-2 c = some-left _ _ c.args.b _ c.requires
 
 pub returns : goal.returns
-returns c = group-turn _ _ c.args.b _ c.requires (omega arith) c.previous_group-previous.ensures c.segment_of.ensures
+returns c = group-turn _ _ c.args.b _ c.requires (omega arith) c.previous_group-previous.ensures c.from.ensures
