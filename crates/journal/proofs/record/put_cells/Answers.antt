@@ -18,18 +18,18 @@ put_cell-requires c =
     let l = c.loop-k-test.true in
     record {
       cell_writable = cell-narrow _ a.parents.now a.scores.now loop.k (omega (arith, l, many)) c.own_candidate-c.ensures c.requires.by_index;
-      at_in_bounds = omega (arith, l, many, cells, loop.invariant.2, c.requires.cells_in_bounds);
+      at_in_bounds = omega (arith, l, many, cells, loop.invariant.0, c.requires.cells_in_bounds);
     }
 
 pub loop-k-preserved : goal.loop-k-preserved
 loop-k-preserved c = let a = c.args in
     let loop = c.loop-k in
     let l = c.loop-k-test.true in
-    (loop.invariant.0, omega (arith, l), c.put_cell.auto.words ∙ loop.invariant.2, cells-turn _ a.parents.now a.scores.now a.words.now loop.words _ loop.k (omega (arith, l, count-in _ c.requires.entries16)) c.own_candidate-c.ensures loop.invariant.3 c.put_cell.ensures)
+    (c.put_cell.auto.words ∙ loop.invariant.0, cells-turn _ a.parents.now a.scores.now a.words.now loop.words _ loop.k (omega (arith, l, count-in _ c.requires.entries16)) c.own_candidate-c.ensures loop.invariant.1 c.put_cell.ensures)
 
 pub returns : goal.returns
 returns c = let a = c.args in
     let loop = c.loop-k in
     let cells = cells_of (candidates_in a.fix) a.parents.now a.scores.now in
     let e : loop.k ≡ length cells = omega (arith, cells-many (candidates_in a.fix) a.parents.now a.scores.now, count-in _ c.requires.entries16) in
-    loop.invariant.3 ∙ rw (e, take-length cells)
+    loop.invariant.1 ∙ rw (e, take-length cells)

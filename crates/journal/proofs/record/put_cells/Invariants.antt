@@ -1,5 +1,4 @@
 -- What the loop of `journal::record::put_cells` keeps.
-use Prim.Native.Nat.{◌-◌, ◌≤◌}
 use mathlib.Core.Path.{◌≡◌}
 use lib.Seq.{sets}
 use lib.ListN.{length, take}
@@ -10,10 +9,5 @@ use Rattle.journal.specs.Lists.{flat}
 use Rattle.journal.proofs.record.put_cells.Given as goal
 
 abbrev pub invariant-loop-k : goal.invariant-loop-k
-invariant-loop-k l = (l.k-end ≡ l.fix.count)
-    × (l.k ≤ l.k-end)
-    × (length l.words ≡ length l.initial.words)
+invariant-loop-k l = (length l.words ≡ length l.initial.words)
     × (l.words ≡ sets l.initial.words first_cell (flat cell_words (take l.k (cells_of (candidates_in l.fix) l.parents l.scores))))
-
-abbrev pub decreases-loop-k : goal.decreases-loop-k
-decreases-loop-k l = l.k-end - l.k
