@@ -2,6 +2,7 @@
 pub mod Buffer
 pub mod Check
 pub mod Fix
+pub mod LengthTable
 pub mod Row
 pub mod Rows
 pub mod Strike
