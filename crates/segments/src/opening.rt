@@ -5,14 +5,12 @@ ghost use Rattle.segments.specs.inner.Building.{nothing_left, Opened};
 
 use crate::build::Building;
 use crate::segment::zero_segment;
-use crate::trail::{Trail, count_segments, last_group};
+use crate::trail::{Lent, Trail};
 use bridges::insert::no_bridges;
 use closing::start::best_start;
 use closing::walk::Back;
 use decoder::known::rows_known;
 use journal::check::read_journal;
-use network::check::check_network;
-use network::lent::Network;
 use refusals::Refusal;
 
 // There are no segments.
@@ -40,22 +38,27 @@ fn nothing_left() -> Building
     }
 }
 
-// Before the first turn, for a buffer with so much room: all checks are made and the segments are counted.
-pub fn begin(net: &Network<'_>, journal: &[u32], room: usize) -> Result<Building, Refusal>
-    ensures begun { IfOk result (λ b. Opened net.now journal.now room b) }
-    ensures refused { IfErr result (λ r. building net.now journal.now room ≡ Err r) }
+// Before the first turn, for a buffer with so much room: checks 7, 9 and 15 are made and the segments are counted.
+pub fn begin(lent: &Lent<'_>, room: usize) -> Result<Building, Refusal>
+    ensures begun { IfOk result (λ b. Opened lent.now.net.now lent.now.journal.now room b) }
+    ensures refused { IfErr result (λ r. building lent.now.net.now lent.now.journal.now room ≡ Err r) }
 {
-    check_network(net)?;
-    let survey = read_journal(journal)?;
-    if !rows_known(journal, survey.rows, survey.used, net.lengths.len() as u32) {
+    let net = lent.net;
+    let survey = read_journal(lent.journal)?;
+    if !rows_known(
+        lent.journal,
+        survey.rows,
+        survey.used,
+        net.lengths.len() as u32,
+    ) {
         return Err(Refusal::Candidate);
     }
     let Some(last) = survey.latest else {
         return Ok(nothing_left());
     };
-    let start = best_start(journal, survey, last);
-    let trail = last_group(journal, start.back);
-    let left = count_segments(net, journal, trail);
+    let start = best_start(lent.journal, survey, last);
+    let trail = lent.last_group(start.back);
+    let left = lent.count_segments(trail);
     if room < left {
         return Err(Refusal::Buffer);
     }

@@ -1,6 +1,6 @@
 -- Building turn by turn: the last of the segments that are left is stored in each.
 use Rattle.std.specs.Prelude.{ℕ, suc, ◌≤◌, ◌≡◌, List, [], ◌∷◌, ◌++◌, map, length, take, Option, Some, None, Ok}
-use Rattle.network.specs.Network.{Network, checked}
+use Rattle.network.specs.Network.{Network}
 use Rattle.closing.specs.inner.Walk.{Reached}
 use Rattle.bridges.specs.inner.Found.{bridges_of}
 use Rattle.groups.specs.declared.group.NetelementGroup.{NetelementGroup}
@@ -28,9 +28,8 @@ nothing_left = record {
   out = zero_segment;
 }
 
--- on an accepted network as many are left as are to come, and the walk stands at a place of the journal
+-- as many are left as are to come, and the walk stands at a place of the journal
 pub record BuildingStands (net : Network) (s : List ℕ) (b : Building) : Type 0 where
-  pub accepted : checked net ≡ Ok tt
   pub reached : (g : NetelementGroup) → b.trail.group ≡ Some g → Reached s b.trail.back
   pub left : b.left ≡ length (to_come net s b)
   pub waits : b.waiting ≤ length b.trail.bridges.elements

@@ -16,11 +16,7 @@ pub returns-then-b-gt0 : goal.returns-then-b-gt0
 returns-then-b-gt0 c = bridge-turn _ _ c.args.b _ c.requires c.if-b-gt0.true refl c.bridge_segment.ensures
 
 pub previous_group-previous-requires : goal.previous_group-previous-requires
-previous_group-previous-requires c =
-    record {
-      accepted = c.requires.stands.accepted;
-      reached = group-reached _ _ c.args.b _ c.requires;
-    }
+previous_group-previous-requires c = group-reached _ _ c.args.b _ c.requires
 
 pub overflow_sub-result-2 : goal.overflow_sub-result-2
 overflow_sub-result-2 c = some-left _ _ c.args.b _ c.requires

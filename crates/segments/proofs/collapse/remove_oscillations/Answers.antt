@@ -35,7 +35,7 @@ loop-phase-smaller-then-stores c =
 pub loop-phase-preserved-then-stores : goal.loop-phase-preserved-then-stores
 loop-phase-preserved-then-stores c =
     let t = turn-stored _ _ _ c.loop-phase.invariant.0 (λ e. clash c.loop-phase-test.true (c.ne.ensures ∙ rw e))
-        _ _ _ c.turn-stage.ensures.0 c.turn-stage.ensures.1 (sym c.stores.ensures ∙ c.if-stores.true) in
+    _ _ _ c.turn-stage.ensures.0 c.turn-stage.ensures.1 (sym c.stores.ensures ∙ c.if-stores.true) in
     (t.inv, t.same ∙ c.loop-phase.invariant.1)
 
 -- the outcome, once nothing is left to do

@@ -1,10 +1,10 @@
--- `segments::trail::count_segments` meets its contract.
+-- `segments::trail::Lent::count_segments` meets its contract.
 use Rattle.std.proofs.Common.{arith, rules}
 use Rattle.segments.proofs.BuildGroups.{counting-begin, counting-turn, counting-end, counting-less}
-use Rattle.segments.proofs.trail.count_segments.Goals as goal
+use Rattle.segments.proofs.trail.Lent.count_segments.Goals as goal
 
 pub loop-t-init : goal.loop-t-init
-loop-t-init c = counting-begin _ _ _ c.requires.reached
+loop-t-init c = counting-begin _ _ _ c.requires
 
 pub overflow_add-n : goal.overflow_add-n
 overflow_add-n c = omega (arith, (counting-turn _ _ _ _ _ c.loop-t.invariant c.in-Some.is c.previous_group-t.ensures).small)
