@@ -1,5 +1,5 @@
 // The steps of a row by value, each by its pair's number.
-ghost use Rattle.std.specs.Prelude.{◌≡◌, ℕ, ◌<◌, ◌≤◌, Ok};
+ghost use Rattle.std.specs.Prelude.{◌≡◌, ℕ, ◌<◌, ◌≤◌, Ok, length};
 ghost use Rattle.network.specs.Network.{known_count, checked};
 ghost use Rattle.transition.specs.Step.{transition};
 ghost use Rattle.journal.specs.Record.{read_row};
@@ -23,6 +23,7 @@ pub struct RowSteps {
     pub count: usize,
     pub n: usize,
     pub steps: [Option<f64>; 256],
+    ghost wide: { length steps ≡ 256 },
     ghost few: { n ≤ 256 },
     ghost some: { 0 < n → 0 < count },
 }

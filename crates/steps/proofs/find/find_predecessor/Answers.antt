@@ -21,4 +21,4 @@ pub returns-in_err-earlier : goal.returns-in_err-earlier
 returns-in_err-earlier c = absurd (row-formed _ _ _ c.requires _ c.end_before-place.ensures (sym c.walk.ensures ∙ c.in_err-earlier.was))
 
 pub returns : goal.returns
-returns c = let h = c.map.ensures.cases in let v = c.map.ensures.variant in ?
+returns c = rw c.link.ensures (row-linked _ _ _ c.requires _ c.end_before-place.ensures (sym c.walk.ensures ∙ c.in_ok-earlier.was))
