@@ -3,7 +3,7 @@ ghost use Rattle.std.specs.Prelude.{◌≡◌, List, ℕ, ◌+◌, ◌*◌, ◌<
 ghost use Rattle.std.proofs.lemmas.List.Edits.{sets};
 ghost use Rattle.journal.specs.Lists.{flat};
 ghost use Rattle.journal.specs.Row.{Cell, Row, no_cell};
-ghost use Rattle.journal.specs.inner.Row.{cells_of, row_of, CellWritable, RowWritable};
+ghost use Rattle.journal.specs.inner.Row.{cells_of, row_of, CellWritable, RowWritable, RowGiven};
 ghost use Rattle.journal.specs.inner.Fix.{candidates_in, fix_in, Entries16};
 ghost use Rattle.journal.specs.Record.{cell_words, distances_words, first_cell, record_of};
 ghost use Rattle.journal.specs.Journal.{put};
@@ -84,8 +84,7 @@ fn put_row(
     scores: &[f64; 16],
     p: usize,
 ) -> usize
-    requires entries16 { let row = row_of (fix_in fix distances.now) parents.now scores.now p in
-        Entries16 fix × RowWritable row }
+    requires row { RowGiven fix distances.now parents.now scores.now p }
     requires row_in_bounds { let row = row_of (fix_in fix distances.now) parents.now scores.now p in
         (length (record_of place row) ≤ length words.old) × (place < 268435456) }
     ensures length_told { let row = row_of (fix_in fix distances.now) parents.now scores.now p in

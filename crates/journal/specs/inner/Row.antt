@@ -6,6 +6,8 @@ use Rattle.journal.specs.Lists.{each}
 use Rattle.journal.specs.Row.{Fix, candidate_count, Cell, Row, row_size, cell_of, scores}
 use Rattle.journal.specs.Ranges.{candidate_limit, distance_ok, candidate_ok, element_limit, minute_limit}
 use Rattle.journal.specs.declared.record.Candidate.{Candidate}
+use Rattle.journal.specs.declared.fix.Candidates.{Candidates}
+use Rattle.journal.specs.inner.Fix.{fix_in, Entries16}
 
 -- 0 to 16 candidates, each field of them and each distance in its range
 abbrev pub fix_ok : ℕ → Fix → Bool
@@ -31,3 +33,8 @@ cells_of cs parents scores = number (λ i c. record { candidate = c; parent = ge
 -- the row of a fix with these parents, scores and p predecessor candidates
 abbrev pub row_of : Fix → List ℕ → List Float → ℕ → Row
 row_of f parents scores p = record { minute = f.minute; cells = cells_of f.candidates parents scores; before = p; distances = f.distances }
+
+-- such a row of a fix by value
+pub record RowGiven (fix : Candidates) (distances : List Float) (parents : List ℕ) (scores : List Float) (p : ℕ) : Type 0 where
+  pub whole : Entries16 fix
+  pub writable : RowWritable (row_of (fix_in fix distances) parents scores p)
