@@ -3,19 +3,17 @@ use Prim.Native.Nat.{ℕ, zero, suc, ◌+◌, ◌-◌, ◌<◌, ◌≤◌}
 use native.Mathlib.Omega.{arith}
 use native.Mathlib.Nat.{add-zero, add-suc, sub-zero}
 use mathlib.Core.Path.{◌≡◌, refl, sym, ap, ◌∙◌, subst}
-use mathlib.Core.Logic.{◌⊎◌, inl, inr}
 use mathlib.Core.Bool.{Bool, true, false, cond}
 use mathlib.Core.List.{List, [], ◌∷◌}
 use lib.ListN.{length, drop, length-drop}
 use lib.Seq.{drop-length}
 use Rattle.std.specs.Prelude.{Some, None}
-use Rattle.lists.proofs.Loops.{clash}
 use Rattle.journal.specs.Row.{Row, row_number}
 use Rattle.journal.specs.Journal.{words}
 use Rattle.journal.specs.inner.Rows.{rows_before}
 use Rattle.rows.specs.Row.{StepScore, StepsAt}
 use Rattle.replaying.specs.Replay.{same_record, first_differing}
-use Rattle.replaying.specs.inner.Comparing.{Replayable, StandsAt, SameAt, Stretch, Compared}
+use Rattle.replaying.specs.inner.Comparing.{Replayable, StandsAt, SameAt, Stretch, Differing, Compared, FirstDiffers}
 use Rattle.replaying.specs.declared.compare.Reached.{Reached}
 use Rattle.replaying.proofs.Standing.{before-next, row-before-end}
 
@@ -43,11 +41,11 @@ module _ {step : StepScore} {minute : ℕ} {rs : List Row} {start row at : ℕ} 
           go (suc d) e = a.same_rows k l (omega arith)
 
   -- one row or more were compared
-  pub along-same : start < row → Stretch step minute rs start (record { row = row; at = at; same = true })
-  along-same l = record { stands = a.stands; from_start = a.onward; same_rows = a.same_rows; told = λ e. clash refl e; onward = inl l }
+  pub along-same : start < row → Stretch step minute rs start (record { row = row; at = at })
+  along-same l = record { stands = a.stands; onward = l; same_rows = a.same_rows }
 
-  pub along-differs : SameAt step minute rs row false → Stretch step minute rs start (record { row = row; at = at; same = false })
-  along-differs d = record { stands = a.stands; from_start = a.onward; same_rows = a.same_rows; told = λ _. d; onward = inr refl }
+  pub along-differs : SameAt step minute rs row false → Differing step minute rs start row
+  along-differs d = record { from_start = a.onward; same_rows = a.same_rows; differs = d }
 
   some-rows : (row ≡ start → ⊥) → start < row
   some-rows apart = omega (arith, a.onward, apart)
@@ -78,43 +76,39 @@ module _ (step : StepsAt) (rs : List Row) where
   differs-later (suc k) n [] e = e
   differs-later (suc k) n (r ∷ l) e = rw (differs-later k n l e)
 
-  module _ {minute start : ℕ} {r : Reached} (s : Stretch (step minute) minute rs start r) (before : first_differing step (rows_before rs start) ≡ None) where
-    same_at : (n : ℕ) (b : Bool) → SameAt (step minute) minute rs n b → same_record (step (row_number rs n).minute) (rows_before rs n) (row_number rs n) ≡ b
-    same_at n b h = rw h.minute-is h.is
+  same_at : {minute : ℕ} (n : ℕ) (b : Bool) → SameAt (step minute) minute rs n b → same_record (step (row_number rs n).minute) (rows_before rs n) (row_number rs n) ≡ b
+  same_at n b h = rw h.minute-is h.is
 
-    none_yet : (d : ℕ) → start + d ≤ r.row → first_differing step (rows_before rs (start + d)) ≡ None
-    none_yet zero l = rw (add-zero start) before
-    none_yet (suc d) l =
-        let here = s.same_rows (start + d) (omega arith) (omega arith) in
-        rw (add-suc start d) (differs_next (start + d) here.stands true (none_yet d (omega arith)) (same_at (start + d) true here))
+  module _ (minute start : ℕ) (before : first_differing step (rows_before rs start) ≡ None) where
+    none_yet : (d : ℕ) → ((k : ℕ) → start ≤ k → k < start + d → SameAt (step minute) minute rs k true) → first_differing step (rows_before rs (start + d)) ≡ None
+    none_yet zero h = rw (add-zero start) before
+    none_yet (suc d) h =
+        let here = h (start + d) (omega arith) (omega arith) in
+        rw (add-suc start d) (differs_next (start + d) here.stands true (none_yet d (λ k l m. h k l (omega arith))) (same_at (start + d) true here))
 
-    pub stretch-compared : Compared step rs r
-    stretch-compared = record { stands = s.stands; so_far = so_far; told = λ e. differs-later (length rs - suc r.row) r.row rs (told (s.told e)) }
-      where
-        so_far : first_differing step (rows_before rs r.row) ≡ None
-        so_far = let whole : start + (r.row - start) ≡ r.row = omega (arith, s.from_start) in rw (← whole) (none_yet (r.row - start) (omega arith))
+    none-to : (n : ℕ) → start ≤ n → ((k : ℕ) → start ≤ k → k < n → SameAt (step minute) minute rs k true) → first_differing step (rows_before rs n) ≡ None
+    none-to n l h = let whole : start + (n - start) ≡ n = omega arith in rw (← whole) (none_yet (n - start) (λ k a b. h k a (omega arith)))
 
-        told : SameAt (step minute) minute rs r.row false → first_differing step (rows_before rs (suc r.row)) ≡ Some r.row
-        told h = differs_next r.row h.stands false so_far (same_at r.row false h)
+    pub stretch-compared : (r : Reached) → Stretch (step minute) minute rs start r → Compared step rs r × (start < r.row)
+    stretch-compared r s = (record { stands = s.stands; so_far = none-to r.row (omega (arith, s.onward)) s.same_rows }, s.onward)
+
+    pub differing-first : (n : ℕ) → Differing (step minute) minute rs start n → FirstDiffers step rs n
+    differing-first n d =
+        differs-later (length rs - suc n) n rs
+        (differs_next n d.differs.stands false (none-to n d.from_start d.same_rows) (same_at n false d.differs))
 
 -- ---- all of them
 
-pub compared-start : (step : StepsAt) (rs : List Row) → Compared step rs (record { row = 0; at = 1; same = true })
+pub compared-start : (step : StepsAt) (rs : List Row) → Compared step rs (record { row = 0; at = 1 })
 unfolding first_differing words
-compared-start step rs = record { stands = record { within = omega arith; placed = rw none_before }; so_far = rw none_before; told = λ e. clash refl e }
+compared-start step rs = record { stands = record { within = omega arith; placed = rw none_before }; so_far = rw none_before }
   where
     none_before : rows_before rs 0 ≡ []
     none_before = ap (λ (n : ℕ). drop n rs) (sub-zero (length rs)) ∙ drop-length rs
 
--- fewer rows are left
-pub compared-less : {step : StepsAt} {rs : List Row} {start : ℕ} {r : Reached} → Compared step rs r → (start < r.row) ⊎ (r.same ≡ false) → r.same ≡ true → length rs - r.row < length rs - start
-compared-less h (inl l) e = omega (arith, h.stands.within)
-compared-less h (inr f) e = clash e f
-
 -- at the end no row differs
-pub compared-end : {n : ℕ} {step : StepsAt} {rs : List Row} {s : List ℕ} {end : ℕ} {r : Reached} → Replayable n rs s end → Compared step rs r → (r.at ≡ end) ⊎ (r.same ≡ false) → r.same ≡ true → first_differing step rs ≡ None
-compared-end h c (inr f) e = clash e f
-compared-end {n} {step} {rs} {s} {end} {r} h c (inl l) e = go (length rs - r.row) refl c.so_far
+pub compared-end : {n : ℕ} {step : StepsAt} {rs : List Row} {s : List ℕ} {end : ℕ} {r : Reached} → Replayable n rs s end → Compared step rs r → end ≤ r.at → first_differing step rs ≡ None
+compared-end {n} {step} {rs} {s} {end} {r} h c l = go (length rs - r.row) refl c.so_far
   where
     go : (m : ℕ) → length rs - r.row ≡ m → first_differing step (drop m rs) ≡ None → first_differing step rs ≡ None
     go zero q f = f

@@ -25,19 +25,15 @@ fn replay_journal(
     ensures { result ≡ replay_read none (known_count net.now) (transition net.now settings) (read_journal journal.now) }
 {
     let survey = read_journal(journal)?;
-    let known = net.lengths.len() as u32;
-    if !rows_known(journal, survey.rows, survey.used, known) {
+    if !rows_known(journal, survey.rows, survey.used, net.lengths.len() as u32) {
         return Err(Refusal::Candidate);
     }
-    let reached = compare_rows(net, settings, journal, survey.used);
-    if reached.same {
-        return Ok(None);
-    }
-    Ok(Some(reached.row as u32))
+    Ok(compare_rows(net, settings, journal, survey.used))
 }
 
 // All checks, then the number of the first row whose words differ from what feeding its own recorded fix on the rows before it would write, or none:
 // every row is what feeding gives. Words past the used ones are not looked at.
+#[tactic(auto, unfolding(decoder::specs::Refusal::refusal_of, crate::specs::Replay::replaying))]
 pub fn replay(
     net: &Network<'_>,
     settings: Settings,

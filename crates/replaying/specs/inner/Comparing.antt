@@ -1,5 +1,5 @@
 -- Comparing rows as the code comes by it: record by record from the front of the journal, a stretch of rows of one minute at a time.
-use Rattle.std.specs.Prelude.{ℕ, suc, ◌<◌, ◌≤◌, ◌≡◌, ◌⊎◌, Bool, true, false, ◌&&◌, Some, None, List, T, eqb, length, Float}
+use Rattle.std.specs.Prelude.{ℕ, suc, ◌<◌, ◌≤◌, ◌≡◌, Bool, true, false, ◌&&◌, Some, None, List, T, eqb, length, Float}
 use Rattle.std.proofs.Math.Option.{some}
 use Rattle.std.specs.Float.{binary64}
 use Rattle.std.specs.Float.Ieee.{to_bits}
@@ -58,16 +58,23 @@ pub record SameAt (step : StepScore) (minute : ℕ) (rs : List Row) (n : ℕ) (s
   pub minute-is : (row_number rs n).minute ≡ minute
   pub is : same_record step (rows_before rs n) (row_number rs n) ≡ same
 
--- from the row `start` on, in a stretch of rows of one minute: those before the one reached are the same, and that one is not where this is told
+-- from the row `start` on, in a stretch of rows of one minute, all rows before the one reached are the same, at least one
 pub record Stretch (step : StepScore) (minute : ℕ) (rs : List Row) (start : ℕ) (r : Reached) : Type 0 where
   pub stands : StandsAt rs r.row r.at
-  pub from_start : start ≤ r.row
+  pub onward : start < r.row
   pub same_rows : (n : ℕ) → start ≤ n → n < r.row → SameAt step minute rs n true
-  pub told : r.same ≡ false → SameAt step minute rs r.row false
-  pub onward : (start < r.row) ⊎ (r.same ≡ false)
 
--- from the first row on: no row before the one reached differs, and that one does where this is told
+-- and where row number n differs, all before it are the same
+pub record Differing (step : StepScore) (minute : ℕ) (rs : List Row) (start n : ℕ) : Type 0 where
+  pub from_start : start ≤ n
+  pub same_rows : (k : ℕ) → start ≤ k → k < n → SameAt step minute rs k true
+  pub differs : SameAt step minute rs n false
+
+-- from the first row on: no row before the one reached differs
 pub record Compared (step : StepsAt) (rs : List Row) (r : Reached) : Type 0 where
   pub stands : StandsAt rs r.row r.at
   pub so_far : first_differing step (rows_before rs r.row) ≡ None
-  pub told : r.same ≡ false → first_differing step rs ≡ Some r.row
+
+-- row number n is the first that differs
+abbrev pub FirstDiffers : StepsAt → List Row → ℕ → Type 0
+FirstDiffers step rs n = first_differing step rs ≡ Some n

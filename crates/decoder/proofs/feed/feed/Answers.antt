@@ -1,46 +1,36 @@
 -- `decoder::feed::feed` meets its contract.
-use mathlib.Core.Path.{sym, ◌∙◌}
-use Rattle.decoder.proofs.Handed.{floats-fit}
+use mathlib.Core.Path.{◌≡◌, sym, ap, ◌∙◌}
+use Rattle.std.proofs.lemmas.Result.{err_from_is_err_and}
+use Rattle.journal.specs.Row.{Given, fix_given}
+use Rattle.journal.specs.inner.Fix.{fix_in}
 use Rattle.decoder.proofs.Plans.{fed-refused}
-use Rattle.decoder.proofs.Writing.{plan-accepted, plan-ends, plan-done, plan-even, plan-feedable, plan-fed, fix_is, even-without}
+use Rattle.decoder.proofs.Writing.{plan-accepted, plan-ends, plan-done, plan-even, plan-feedable, plan-fed, fix_is}
 use Rattle.decoder.proofs.feed.feed.Goals as goal
+use Rattle.decoder.proofs.feed.feed.Goals.{After-gather}
 
-pub gather-fix-requires : goal.gather-fix-requires
-gather-fix-requires c = let fits = sym c.check_feed-plan.ensures ∙ c.in-Fits.is in
-    even-without _ _ _ _ _ _ (plan-even _ _ _ _ _ _ fits)
+pub returns-in_err-plan-clause-fed : goal.returns-in_err-plan-clause-fed
+returns-in_err-plan-clause-fed c =
+    let p = err_from_is_err_and c.from_residual.result c.from_residual.ensures.1 in
+    rw (p.1, p.2) (fed-refused _ _ _ _ _ _ (sym c.check_feed.ensures ∙ c.in_err-plan.was))
 
-pub compile_and_write-requires : goal.compile_and_write-requires
-compile_and_write-requires c =
-    let fits = sym c.check_feed-plan.ensures ∙ c.in-Fits.is in
-    let same = fix_is _ _ _ _ _ _ c.gather-fix.result c.gather-fix.ensures.1 c.gather-fix.ensures.2 in
-    record {
-      net_value = plan-accepted _ _ _ _ _ _ fits;
-      feedable = plan-feedable _ _ _ _ _ _ fits same;
-      entries16 = (c.gather-fix.ensures.0, plan-ends _ _ _ _ _ _ fits);
-    }
+pub gather-requires : goal.gather-requires
+gather-requires c = plan-even _ _ _ _ _ (sym c.check_feed.ensures ∙ c.in_ok-plan.was)
 
-pub returns-in-Refused : goal.returns-in-Refused
-returns-in-Refused c =
-    let a = c.args in
-    record {
-      fact = fed-refused _ _ _ _ _ _ (sym c.check_feed-plan.ensures ∙ c.in-Refused.is);
-      floats = (
-        floats-fit a.intrinsics.now c.shared_slice_known-14-1.given,
-        floats-fit a.raw_logs.now c.shared_slice_known-16-1.given,
-        floats-fit a.distances.now c.shared_slice_known-17-1.given,
-      );
-    }
+-- what is gathered is the fix
+gathered : (c : After-gather) → fix_in c.gather.result c.fix.inside.distances.now ≡ fix_given c.args.fix.now
+gathered c = ap (fix_in c.gather.result) (ap (λ (g : Given). g.distances) c.fix.view_is) ∙ fix_is c.args.fix.now c.gather.result c.gather.ensures.1.0 c.gather.ensures.1.1
 
-pub returns-in-Fits : goal.returns-in-Fits
-returns-in-Fits c =
-    let fits = sym c.check_feed-plan.ensures ∙ c.in-Fits.is in
-    let same = fix_is _ _ _ _ _ _ c.gather-fix.result c.gather-fix.ensures.1 c.gather-fix.ensures.2 in
-    let a = c.args in
-    record {
-      fact = (plan-done _ _ _ _ _ _ fits, plan-fed _ _ _ _ _ _ fits same c.compile_and_write.ensures);
-      floats = (
-        floats-fit a.intrinsics.now c.shared_slice_known-14-1.given,
-        floats-fit a.raw_logs.now c.shared_slice_known-16-1.given,
-        floats-fit a.distances.now c.shared_slice_known-17-1.given,
-      );
-    }
+pub compile_and_write-requires-clause-accepted : goal.compile_and_write-requires-clause-accepted
+compile_and_write-requires-clause-accepted c = plan-accepted _ _ _ _ _ (sym c.check_feed.ensures ∙ c.in_ok-plan.was)
+
+pub compile_and_write-requires-clause-feedable : goal.compile_and_write-requires-clause-feedable
+compile_and_write-requires-clause-feedable c =
+    plan-feedable _ _ _ _ _ (sym c.check_feed.ensures ∙ c.in_ok-plan.was) (gathered (goal.at.compile_and_write-requires-clause-feedable c).After-gather)
+
+pub compile_and_write-requires-clause-end_is : goal.compile_and_write-requires-clause-end_is
+compile_and_write-requires-clause-end_is c = plan-ends _ _ _ _ _ (sym c.check_feed.ensures ∙ c.in_ok-plan.was)
+
+pub returns-clause-fed : goal.returns-clause-fed
+returns-clause-fed c =
+    let e = sym c.check_feed.ensures ∙ c.in_ok-plan.was in
+    (plan-done _ _ _ _ _ e, plan-fed _ _ _ _ _ e (gathered (goal.at.returns-clause-fed c).After-gather) c.compile_and_write.ensures)

@@ -1,14 +1,13 @@
 -- What the loop of `replaying::compare::compare_rows` keeps.
 use Prim.Native.Nat.{◌-◌}
 use lib.ListN.{length}
-use Rattle.network.specs.Network.{network_of}
 use Rattle.transition.specs.Step.{transition}
 use Rattle.journal.specs.inner.Rows.{rows_in}
 use Rattle.replaying.specs.inner.Comparing.{Compared}
 use Rattle.replaying.proofs.compare.compare_rows.Given as goal
 
 abbrev pub invariant-loop-reached : goal.invariant-loop-reached
-invariant-loop-reached l = Compared (transition (network_of l.lengths l.headings l.flags l.from l.to l.from_side l.to_side l.forward l.backward l.window_counts l.window_firsts l.window_lasts) l.settings) (rows_in l.journal) l.reached
+invariant-loop-reached l = Compared (transition l.net l.settings) (rows_in l.journal) l.reached
 
 abbrev pub decreases-loop-reached : goal.decreases-loop-reached
 decreases-loop-reached l = length (rows_in l.journal) - l.reached.row

@@ -7,7 +7,7 @@ use Rattle.replaying.proofs.Stretches.{Along}
 use Rattle.replaying.proofs.compare.compare_stretch.Given as goal
 
 abbrev pub invariant-loop-at : goal.invariant-loop-at
-invariant-loop-at l = Along (step_on (track_in l.lengths l.headings l.flags l.heads l.links) l.settings) l.minute (rows_in l.journal) l.initial.row l.row l.at
+invariant-loop-at l = Along (step_on (track_in l.track) l.settings) l.minute (rows_in l.journal) l.initial.row l.row l.at
 
 abbrev pub decreases-loop-at : goal.decreases-loop-at
 decreases-loop-at l = l.end - l.at

@@ -15,18 +15,18 @@ pub candidates_at-fix-requires : goal.candidates_at-fix-requires
 candidates_at-fix-requires c = own-record c.requires c.candidate_count-count.ensures
 
 pub copy_floats-requires : goal.copy_floats-requires
-copy_floats-requires c = distances-stand c.requires c.candidate_count-count.ensures c.before_count-before.ensures c.distance_count-n.ensures.fact_1 _ (omega arith)
+copy_floats-requires c = distances-stand c.requires c.candidate_count-count.ensures c.before_count-before.ensures c.distance_count-n.ensures.pairs _ (omega arith)
 
 pub slice_bounds-distances-end : goal.slice_bounds-distances-end
-slice_bounds-distances-end c = omega (arith, few-distances c.requires c.candidate_count-count.ensures c.before_count-before.ensures c.distance_count-n.ensures.fact_1, c.distances-2-1.given)
+slice_bounds-distances-end c = omega (arith, few-distances c.requires c.candidate_count-count.ensures c.before_count-before.ensures c.distance_count-n.ensures.pairs)
 
 pub slice_bounds-score_row-end : goal.slice_bounds-score_row-end
-slice_bounds-score_row-end c = sym (length-take-le _ _ (omega (arith, few-distances c.requires c.candidate_count-count.ensures c.before_count-before.ensures c.distance_count-n.ensures.fact_1, c.distances-2-1.given)))
+slice_bounds-score_row-end c = sym (length-take-le _ _ (omega (arith, few-distances c.requires c.candidate_count-count.ensures c.before_count-before.ensures c.distance_count-n.ensures.pairs)))
 
 pub score_row-requires : goal.score_row-requires
 score_row-requires c =
     let stands = c.requires in
-    let distances = distances-are stands c.candidate_count-count.ensures c.before_count-before.ensures c.distance_count-n.ensures.fact_1 _ (omega arith) c.copy_floats.ensures in
+    let distances = distances-are stands c.candidate_count-count.ensures c.before_count-before.ensures c.distance_count-n.ensures.pairs _ (omega arith) c.copy_floats.ensures in
     record {
       entries16 = c.candidates_at-fix.ensures.0;
       scorable = row-scorable stands (fix-recorded stands c.candidates_at-fix.result c.candidates_at-fix.ensures.1 c.candidates_at-fix.ensures.2 distances) c.before_count-before.ensures _ _ (omega arith) (omega arith);
@@ -37,5 +37,5 @@ cells_same-requires c = own-record c.requires c.candidate_count-count.ensures
 
 pub returns : goal.returns
 returns c = let stands = c.requires in
-    let distances = distances-are stands c.candidate_count-count.ensures c.before_count-before.ensures c.distance_count-n.ensures.fact_1 _ (omega arith) c.copy_floats.ensures in
+    let distances = distances-are stands c.candidate_count-count.ensures c.before_count-before.ensures c.distance_count-n.ensures.pairs _ (omega arith) c.copy_floats.ensures in
     row-compared stands (fix-recorded stands c.candidates_at-fix.result c.candidates_at-fix.ensures.1 c.candidates_at-fix.ensures.2 distances) c.before_count-before.ensures _ _ _ c.candidate_count-count.ensures c.score_row.ensures c.cells_same.ensures
