@@ -18,7 +18,7 @@ gather-requires c = plan-even _ _ _ _ _ (sym c.check_feed.ensures ∙ c.in_ok-pl
 
 -- what is gathered is the fix
 gathered : (c : After-gather) → fix_in c.gather.result c.fix.inside.distances.now ≡ fix_given c.args.fix.now
-gathered c = ap (fix_in c.gather.result) (ap (λ (g : Given). g.distances) c.fix.view_is) ∙ fix_is c.args.fix.now c.gather.result c.gather.ensures.1.0 c.gather.ensures.1.1
+gathered c = ap (fix_in c.gather.result) (ap (λ (g : Given). g.distances) c.fix.view_is) ∙ fix_is c.args.fix.now c.gather.result c.gather.ensures.1 c.gather.ensures.2
 
 pub compile_and_write-requires-clause-accepted : goal.compile_and_write-requires-clause-accepted
 compile_and_write-requires-clause-accepted c = plan-accepted _ _ _ _ _ (sym c.check_feed.ensures ∙ c.in_ok-plan.was)
