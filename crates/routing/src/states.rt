@@ -15,7 +15,7 @@ use refusals::Refusal;
 // How many states there are from s back to the start, both counted; at most `most`.
 fn steps_back(preds: &[u16; 4096], start: usize, most: usize, s: usize) -> usize
     requires s_bound { s < 4096 }
-    requires by_index { (k : ℕ) → get_or preds.now k 0 < 4096 }
+    requires preds_bound { (k : ℕ) → get_or preds.now k 0 < 4096 }
     ensures { result ≡ steps_back preds.now start most s }
 {
     let mut at = s;
@@ -31,14 +31,12 @@ fn steps_back(preds: &[u16; 4096], start: usize, most: usize, s: usize) -> usize
 // The n states from s back are stored in the first n entries, s last.
 fn write_back(preds: &[u16; 4096], s: usize, n: usize, states: &mut [u32])
     requires s_bound { s < 4096 }
-    requires by_index { (k : ℕ) → get_or preds.now k 0 < 4096 }
+    requires preds_bound { (k : ℕ) → get_or preds.now k 0 < 4096 }
     requires n_in_bounds { n ≤ length states.old }
     ensures { states.new ≡ reverse (states_back preds.now n s) ++ drop n states.old }
 {
     let mut at = s as u16;
-    let mut i = n;
-    while 0 < i {
-        i -= 1;
+    for i in (0..n).rev() {
         states[i] = at as u32;
         at = preds[at as usize];
     }
@@ -54,7 +52,7 @@ fn list_back(
     states: &mut [u32],
 ) -> Result<Option<ListedRoute>, Refusal>
     requires s_bound { s < 4096 }
-    requires by_index { (k : ℕ) → get_or preds.now k 0 < 4096 }
+    requires preds_bound { (k : ℕ) → get_or preds.now k 0 < 4096 }
     ensures value { result ≡ route_fitted (Some cost) (steps_back preds.now start most s) (length states.old) }
     ensures states_after { states.new ≡ states_stored result (reverse (states_back preds.now (steps_back preds.now start most s) s)) states.old }
 {

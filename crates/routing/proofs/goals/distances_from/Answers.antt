@@ -1,12 +1,24 @@
 -- `routing::goals::distances_from` meets its contract.
-use mathlib.Core.Path.{ap, ap₂, refl, ◌∙◌}
-use mathlib.Core.List.{◌++◌}
+use mathlib.Core.Path.{◌≡◌, ap, ap₂, refl, ◌∙◌}
+use mathlib.Core.List.{List, ◌++◌}
+use Prim.Native.Nat.{ℕ, ◌≤◌}
+use lib.ListN.{length, take, replicate}
+use lib.Seq.{length-take-le}
+use lib.Ieee.{Float, of_bits}
 use Rattle.network.specs.inner.Compiled.{graph_in}
 use Rattle.routing.specs.Route.{cost_of_end}
-use Rattle.routing.proofs.Noting.{costs-same}
+use Rattle.routing.proofs.Noting.{filled-front, filled-rest, costs-same}
 use Rattle.routing.proofs.Reached.{reached-begun}
 use Rattle.routing.proofs.Routes.{is-searched, node-route}
 use Rattle.routing.proofs.goals.distances_from.Goals as goal
+
+filled : (before : List Float) {n : ℕ} {x : Float} {after : List Float} → n ≤ length before →
+    (((y : Float) → y ≡ x → y ≡ x) → after ≡ replicate (length (take n before)) x) → after ≡ replicate n x
+filled before {n} {x} room h = h (λ y e. e) ∙ ap (λ (k : ℕ). replicate k x) (length-take-le n before room)
+
+pub serve_goals-requires-clause-unfound : goal.serve_goals-requires-clause-unfound
+unfolding of_bits
+serve_goals-requires-clause-unfound c = λ k h. rw (filled c.args.found.now c.requires.goals_in_bounds c.fill.ensures.after) (filled-front _ _ (length c.args.goals.now) k h)
 
 pub serve_goals-requires-clause-reached : goal.serve_goals-requires-clause-reached
 serve_goals-requires-clause-reached c = rw c.begin.ensures (reached-begun (graph_in c.args.graph.now) c.requires.sound_graph _ c.requires.start_bound)
@@ -14,4 +26,4 @@ serve_goals-requires-clause-reached c = rw c.begin.ensures (reached-begun (graph
 pub returns : goal.returns
 returns c =
     c.serve_goals.ensures
-    ∙ ap₂ ◌++◌ (costs-same (λ u. ap cost_of_end (is-searched _ c.args.start u c.begin.ensures refl) ∙ node-route _ c.args.start u c.requires.start_bound) c.args.goals.now) c.clear_goals.ensures.found_unchanged
+    ∙ ap₂ ◌++◌ (costs-same (λ u. ap cost_of_end (is-searched _ c.args.start u c.begin.ensures refl) ∙ node-route _ c.args.start u c.requires.start_bound) c.args.goals.now) (rw (filled c.args.found.now c.requires.goals_in_bounds c.fill.ensures.after) (filled-rest _ _ (length c.args.goals.now)))

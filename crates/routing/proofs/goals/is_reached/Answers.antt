@@ -1,7 +1,8 @@
 -- `routing::goals::is_reached` meets its contract.
-use mathlib.Core.Path.{ap}
-use lib.Ieee.{lt}
+use mathlib.Core.Path.{refl}
+use lib.Ieee.{of_bits}
 use Rattle.routing.proofs.goals.is_reached.Goals as goal
 
 pub returns : goal.returns
-returns c = ap (lt _) c.infinity.ensures
+unfolding of_bits
+returns c = refl

@@ -20,8 +20,8 @@ offset_bounds-search-inside-s c = omega (arith, found_below _ c.args.start c.arg
 pub list_back-requires-clause-s_bound : goal.list_back-requires-clause-s_bound
 list_back-requires-clause-s_bound c = found_below _ c.args.start c.args.goal (is-searched _ _ c.args.goal c.begin.ensures c.find.ensures) _ c.in-Some.is c.requires.sound_graph
 
-pub list_back-requires-clause-by_index : goal.list_back-requires-clause-by_index
-list_back-requires-clause-by_index c = λ k.
+pub list_back-requires-clause-preds_bound : goal.list_back-requires-clause-preds_bound
+list_back-requires-clause-preds_bound c = λ k.
     rw (ap (λ (q : Search). q.tables.preds) c.search.view_is)
     (found-states-below _ c.args.start c.args.goal (is-searched _ _ c.args.goal c.begin.ensures c.find.ensures) c.requires.sound_graph k)
 

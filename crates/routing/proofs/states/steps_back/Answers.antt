@@ -23,7 +23,7 @@ pub loop-n-smaller : goal.loop-n-smaller
 loop-n-smaller c = omega arith
 
 pub loop-n-preserved : goal.loop-n-preserved
-loop-n-preserved c = (omega arith, c.requires.by_index _, steps_on _ _ _ _ _ c.loop-n.invariant.2 c.loop-n-test.true c.if-at-start.false)
+loop-n-preserved c = (omega arith, c.requires.preds_bound _, steps_on _ _ _ _ _ c.loop-n.invariant.2 c.loop-n-test.true c.if-at-start.false)
 
 pub returns : goal.returns
 returns c = steps-end _ _ _ _ _ c.loop-n.invariant.2 (omega arith)

@@ -13,9 +13,6 @@ overflow_cast-at c = omega arith
 pub loop-i-init : goal.loop-i-init
 loop-i-init c = (omega arith, c.requires.s_bound, refl, refl)
 
-pub overflow_sub-i : goal.overflow_sub-i
-overflow_sub-i c = omega arith
-
 pub bounds-states-i : goal.bounds-states-i
 bounds-states-i c = omega arith
 
@@ -23,7 +20,7 @@ pub loop-i-smaller : goal.loop-i-smaller
 loop-i-smaller c = omega arith
 
 pub loop-i-preserved : goal.loop-i-preserved
-loop-i-preserved c = (omega arith, c.requires.by_index _, simp length-set c.loop-i.invariant.2, write-turn _ _ _ _ c.loop-i.invariant.3 c.loop-i-test.true (omega arith))
+loop-i-preserved c = (omega arith, c.requires.preds_bound _, simp length-set c.loop-i.invariant.2, write-turn _ _ _ _ c.loop-i.invariant.3 c.loop-i-test.true (omega arith))
 
 pub shape_of-states : goal.shape_of-states
 shape_of-states c = c.loop-i.invariant.2
