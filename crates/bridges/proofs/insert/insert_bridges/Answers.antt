@@ -9,9 +9,6 @@ returns-then-are_joined c =
     let told = rw (c.element_nodes-sources.ensures, c.element_nodes-targets.ensures) at (sym c.are_joined.ensures ∙ c.if-are_joined.true) in
     c.no_bridges.ensures ∙ ap bridges_of (sym (joined-none _ c.requires.sound_graph _ _ told))
 
-pub compile_network-graph-requires-clause-lengths_bound : goal.compile_network-graph-requires-clause-lengths_bound
-compile_network-graph-requires-clause-lengths_bound c = c.requires.sound_graph.few
-
 pub bridges_between-requires : goal.bridges_between-requires
 bridges_between-requires c = rw c.compile_network-graph.ensures.value c.requires.sound_graph
 

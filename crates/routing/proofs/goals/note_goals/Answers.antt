@@ -8,33 +8,6 @@ use Rattle.routing.proofs.goals.note_goals.Goals.{then-not-is_reached, else-not-
 pub loop-k-init : goal.loop-k-init
 loop-k-init c = (refl, omega arith, noting-none _ _ _ _)
 
-pub offset_bounds-goals-k : goal.offset_bounds-goals-k
-offset_bounds-goals-k c = omega arith
-
-pub bounds-goals-k : goal.bounds-goals-k
-bounds-goals-k c = omega arith
-
-pub offset_bounds-found-k : goal.offset_bounds-found-k
-offset_bounds-found-k c = omega (arith, c.requires, c.loop-k.invariant.2.kept)
-
-pub bounds-found-k : goal.bounds-found-k
-bounds-found-k c = omega (arith, c.requires, c.loop-k.invariant.2.kept)
-
-pub offset_bounds-found-k-in-loop-k : goal.offset_bounds-found-k-in-loop-k
-offset_bounds-found-k-in-loop-k c = omega (arith, c.requires, c.loop-k.invariant.2.kept)
-
-pub bounds-found-k-in-loop-k : goal.bounds-found-k-in-loop-k
-bounds-found-k-in-loop-k c = omega (arith, c.requires, c.loop-k.invariant.2.kept)
-
-pub overflow_add-waiting : goal.overflow_add-waiting
-overflow_add-waiting c = omega (arith, c.loop-k.invariant.2.few)
-
-pub overflow_step-k : goal.overflow_step-k
-overflow_step-k c = omega arith
-
-pub loop-k-smaller : goal.loop-k-smaller
-loop-k-smaller c = omega arith
-
 pub loop-k-preserved : goal.loop-k-preserved
 loop-k-preserved c = (
   c.loop-k.invariant.0,
@@ -44,9 +17,6 @@ loop-k-preserved c = (
     | else-not-is_reached w ↦ noting-on _ _ _ _ _ _ _ c.loop-k.invariant.2 (omega (arith, c.loop-k-test.true, c.loop-k.invariant.0)) (omega (arith, c.loop-k-test.true, c.loop-k.invariant.0, c.requires)) c.noted_cost-known.ensures (omega (arith, w.waiting-is, c.loop-k.invariant.2.few)) (λ z. (omega (arith, w.waiting-is), sym c.is_reached.ensures ∙ w.if-not-is_reached.false))
   ],
 )
-
-pub shape_of-found : goal.shape_of-found
-shape_of-found c = c.loop-k.invariant.2.kept
 
 pub returns : goal.returns
 returns c = noting-done _ _ _ _ _ _ _ c.loop-k.invariant.2 (omega arith)

@@ -20,9 +20,6 @@ pub offset_bounds-search-inside-s : goal.offset_bounds-search-inside-s
 unfolding next
 offset_bounds-search-inside-s c = omega (arith, below (graph_in c.args.graph.now) 0 c.loop-waiting.search c.in-Some.s (reached-fit c.loop-waiting.invariant.0) (sym (c.next_state.ensures _ c.loop-waiting.invariant.0) ∙ c.in-Some.is), c.requires.sound_graph.few)
 
-pub note_goals-waiting-requires : goal.note_goals-waiting-requires
-note_goals-waiting-requires c = omega (arith, c.loop-waiting.invariant.1, c.requires.goals_in_bounds)
-
 pub settle-requires : goal.settle-requires
 unfolding next
 settle-requires c =

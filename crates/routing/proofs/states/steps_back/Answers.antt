@@ -7,20 +7,8 @@ use Rattle.routing.proofs.states.steps_back.Goals as goal
 pub loop-n-init : goal.loop-n-init
 loop-n-init c = (omega arith, c.requires.s_bound, rw (sub-zero, zero-add))
 
-pub overflow_add-result : goal.overflow_add-result
-overflow_add-result c = omega arith
-
 pub returns-then-at-start : goal.returns-then-at-start
 returns-then-at-start c = steps-stop _ _ _ _ _ c.loop-n.invariant.2 c.loop-n-test.true c.if-at-start.true
-
-pub bounds-preds-at : goal.bounds-preds-at
-bounds-preds-at c = omega arith
-
-pub overflow_step-n : goal.overflow_step-n
-overflow_step-n c = omega arith
-
-pub loop-n-smaller : goal.loop-n-smaller
-loop-n-smaller c = omega arith
 
 pub loop-n-preserved : goal.loop-n-preserved
 loop-n-preserved c = (omega arith, c.requires.preds_bound _, steps_on _ _ _ _ _ c.loop-n.invariant.2 c.loop-n-test.true c.if-at-start.false)

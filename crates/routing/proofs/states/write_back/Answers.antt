@@ -7,23 +7,11 @@ use Rattle.routing.specs.Route.{states_back}
 use Rattle.routing.proofs.Back.{write-turn, write-end}
 use Rattle.routing.proofs.states.write_back.Goals as goal
 
-pub overflow_cast-at : goal.overflow_cast-at
-overflow_cast-at c = omega arith
-
 pub loop-i-init : goal.loop-i-init
 loop-i-init c = (omega arith, c.requires.s_bound, refl, refl)
 
-pub bounds-states-i : goal.bounds-states-i
-bounds-states-i c = omega arith
-
-pub loop-i-smaller : goal.loop-i-smaller
-loop-i-smaller c = omega arith
-
 pub loop-i-preserved : goal.loop-i-preserved
 loop-i-preserved c = (omega arith, c.requires.preds_bound _, simp length-set c.loop-i.invariant.2, write-turn _ _ _ _ c.loop-i.invariant.3 c.loop-i-test.true (omega arith))
-
-pub shape_of-states : goal.shape_of-states
-shape_of-states c = c.loop-i.invariant.2
 
 pub returns : goal.returns
 returns c = write-end _ _ _ _ c.loop-i.invariant.3 (omega arith) ∙ reverse_aux-eq (states_back c.args.preds.now c.args.n c.args.s) (drop c.args.n c.args.states.now)

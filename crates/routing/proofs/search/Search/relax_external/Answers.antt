@@ -11,9 +11,6 @@ use Rattle.routing.proofs.search.Search.relax_external.Goals as goal
 pub loop-i-init : goal.loop-i-init
 loop-i-init c = (omega arith, refl, left-all _ _ _ _ _ _ _ c.requires.lands)
 
-pub loop-i-smaller : goal.loop-i-smaller
-loop-i-smaller c = omega arith
-
 pub returns-then-e-ge8192 : goal.returns-then-e-ge8192
 returns-then-e-ge8192 c = let t = left-none _ _ _ _ _ _ _ _ c.loop-i.invariant.2 c.if-e-ge8192.true in let m = c.loop-i.invariant.1 in rw (← t, ← m)
 
