@@ -1,7 +1,8 @@
 -- `network::compile::compile_network` meets its contract.
 use Rattle.std.proofs.Common.{rules, refl}
+use mathlib.Core.Logic.{inl, inr}
 use Rattle.network.specs.inner.Compiled.{no_links}
-use Rattle.network.proofs.Compiling.{added_none, added-all, behind-fits, ahead-fits, added-more}
+use Rattle.network.proofs.Compiling.{added_none, added-all, link-fits, added-more}
 use Rattle.network.proofs.compile.compile_network.Goals as goal
 
 pub loop-k-init : goal.loop-k-init
@@ -10,11 +11,11 @@ loop-k-init c = added_none c.args.net.now _ c.requires.lengths_bound c.requires.
 
 pub add_link-requires-clause-nodes_bound : goal.add_link-requires-clause-nodes_bound
 add_link-requires-clause-nodes_bound c =
-    behind-fits c.args.net.now _ c.requires.lengths_bound c.requires.relations_fit c.loop-k-test.true (search rules) c.relation_at-r.ensures (search rules)
+    link-fits c.args.net.now _ c.requires.lengths_bound c.requires.relations_fit c.loop-k-test.true (search rules) c.relation_at-r.ensures (search (rules, inl, inr))
 
 pub add_link-requires-in-loop-k-clause-nodes_bound : goal.add_link-requires-in-loop-k-clause-nodes_bound
 add_link-requires-in-loop-k-clause-nodes_bound c =
-    ahead-fits c.args.net.now _ c.requires.lengths_bound c.requires.relations_fit c.loop-k-test.true (search rules) c.relation_at-r.ensures (search rules)
+    link-fits c.args.net.now _ c.requires.lengths_bound c.requires.relations_fit c.loop-k-test.true (search rules) c.relation_at-r.ensures (search (rules, inl, inr))
 
 pub loop-k-preserved : goal.loop-k-preserved
 loop-k-preserved c =
