@@ -62,11 +62,15 @@ found_rows : {s : List ℕ} {x : Survey} → survey s ≡ Ok x → Surveyed s x.
 found_rows {s} {x} e = survey-rows s x.rows x.used x.latest x.minute e
 
 -- no row scores
-pub closed-nothing : (s : List ℕ) (room : ℕ) {x : Survey} → survey s ≡ Ok x → x.latest ≡ None → closing_on s room ≡ gave nothing
+pub closed-nothing : (s : List ℕ) (room : ℕ) {x : Survey} → survey s ≡ Ok x → ((p : Predecessor) → x.latest ≡ Some p → ⊥) → closing_on s room ≡ gave nothing
 unfolding closing_on closing
-closed-nothing s room e n =
+closed-nothing s room {x} e n =
     let r = found_rows e in
-    rw (r.reads, latest-none r.rows (r.latest ∙ n), le-leb 0 room (omega arith))
+    rw (r.reads, latest-none r.rows (r.latest ∙ is_none x.latest n), le-leb 0 room (omega arith))
+  where
+    is_none : (o : Option Predecessor) → ((p : Predecessor) → o ≡ Some p → ⊥) → o ≡ None
+    is_none None n = refl
+    is_none (Some p) n = absurd (n p refl)
 
 -- ---- the last scoring row
 

@@ -7,7 +7,7 @@ use mathlib.Core.Option.{Option as Maybe, none, some}
 use mathlib.Core.Path.{◌≡◌, refl, sym, ap, ◌∙◌}
 use mathlib.Core.List.{List, ◌∷◌, map}
 use borrow.Author.Tests.{le-leb, lt-leb, lt-ltb, le-ltb}
-use lib.ListN.{length, get_or, drop, length-map, get_or-map, length-drop}
+use lib.ListN.{length, get_or, take, drop, length-map, get_or-map, length-drop}
 use lib.Seq.{drop-cons}
 use lib.Ieee.{Float, nan}
 use Rattle.journal.specs.Row.{Row, Cell, no_cell, no_row, row_size, cell_of, row_number}
@@ -20,6 +20,7 @@ use Rattle.journal.specs.inner.Check.{survey_of, survey}
 use Rattle.journal.specs.declared.check.Survey.{Survey}
 use Rattle.refusals.specs.declared.Refusal.{Refusal}
 use Rattle.journal.specs.WellFormed.{Obey}
+use Rattle.journal.proofs.Stores.{take_rest}
 use Rattle.journal.proofs.Buffers.{entries-listed}
 use Rattle.journal.proofs.Tests.{cell_at}
 use Rattle.journal.proofs.Records.{length-each}
@@ -153,12 +154,15 @@ module _ (ws : List ℕ) where
 
 -- ---- a row at its place in the journal
 
+abbrev pub words_from : List ℕ → ℕ → List ℕ
+words_from s place = take (length s - place) (drop place s)
+
 pub row-unread : (s : List ℕ) (n : ℕ) (b : RowBuffers) {k : Refusal} → survey s ≡ Err k → reading s n b ≡ Err k
 unfolding reading survey
 row-unread s n b {k} e = go (read_journal s) e
   where
     go : (o : Maybe (List Row)) → survey_of (used s) o ≡ Err k → reading_read n b o ≡ Err k
-    go none q = q
+    go none q = let same : Refusal.Journal ≡ k = cc in rw same
     go (some rs) q = cc
 
 module _ (s : List ℕ) {x : Survey} (e : survey s ≡ Ok x) (n : ℕ) where
@@ -198,16 +202,20 @@ module _ (s : List ℕ) {x : Survey} (e : survey s ≡ Ok x) (n : ℕ) where
       obeys : Obey (row_number surveyed.rows n ∷ drop (x.rows - n) surveyed.rows)
       obeys = row-obeys s surveyed.rows surveyed.reads k (row_number surveyed.rows n) (drop (x.rows - n) surveyed.rows) split
 
-      pub row-whole : RecordWhole (drop place s)
-      row-whole = record {
+      row_whole : RecordWhole (drop place s)
+      row_whole = record {
         few = rw row_here obeys.0.0.few;
         few-before = rw row_here obeys.0.0.few-before;
         room = rw (row_here, length-drop place s)
             (omega (arith, placed, length-record (predecessor_place (drop (x.rows - n) surveyed.rows)) (row_number surveyed.rows n) obeys.0.0.number, row_inside s surveyed.rows surveyed.reads k (row_number surveyed.rows n) (drop (x.rows - n) surveyed.rows) split));
       }
 
-      pub row-reading : (b : RowBuffers) → reading s n b ≡ row_fitted b (read_row (drop place s))
+      -- as the code reads them
+      pub row-whole : RecordWhole (words_from s place)
+      row-whole = rw take_rest row_whole
+
+      pub row-reading : (b : RowBuffers) → reading s n b ≡ row_fitted b (read_row (words_from s place))
       unfolding reading
       row-reading b =
           let m : n < length surveyed.rows = omega (arith, surveyed.counted) in
-          ap (reading_read n b) surveyed.reads ∙ rw (lt-ltb _ _ m, row_here)
+          ap (reading_read n b) surveyed.reads ∙ rw (lt-ltb _ _ m, take_rest, row_here)

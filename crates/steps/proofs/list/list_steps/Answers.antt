@@ -67,8 +67,9 @@ overflow_add-at c = omega (arith, (fits (goal.at.overflow_add-at c).In-Some).row
 pub loop-k-preserved : goal.loop-k-preserved
 unfolding put_entries
 loop-k-preserved c = elim c.match-found-k.branch [
-    in-Some w ↦ rw (w.at-is, w.predecessor_rows-is, w.predecessor_candidates-is, w.rows-is, w.candidates-is, w.steps-is) (stored-turn c.loop-k.invariant w.in-Some.is refl)
-    | in_default w ↦ rw (w.at-is, w.predecessor_rows-is, w.predecessor_candidates-is, w.rows-is, w.candidates-is, w.steps-is) (stored-skip c.loop-k.invariant w.in_default.not-Some) ]
+  | in-Some w ↦ rw (w.at-is, w.predecessor_rows-is, w.predecessor_candidates-is, w.rows-is, w.candidates-is, w.steps-is) (stored-turn c.loop-k.invariant w.in-Some.is refl)
+  | in_default w ↦ rw (w.at-is, w.predecessor_rows-is, w.predecessor_candidates-is, w.rows-is, w.candidates-is, w.steps-is) (stored-skip c.loop-k.invariant w.in_default.not-Some)
+]
 
 pub returns : goal.returns
 returns c = let a = c.args in
