@@ -8,7 +8,7 @@ use Rattle.lists.specs.Loops.{any_below}
 use Rattle.binary64.specs.Operators.{◌⊕◌}
 use Rattle.network.specs.Graph.{element_count}
 use Rattle.transition.specs.Track.{Track}
-use Rattle.journal.specs.Row.{Fix, Row, no_parent, candidate_count, candidate_of, row_size, cell_of, score_of, before_of}
+use Rattle.journal.specs.Row.{Fix, Row, no_parent, candidate_count, candidate_of, row_size, cell_of, before_of}
 use Rattle.journal.specs.Record.{first_cell, read_row}
 use Rattle.transition.specs.inner.Track.{TrackFits}
 use Rattle.rows.specs.inner.Sides.{PairRoutes}

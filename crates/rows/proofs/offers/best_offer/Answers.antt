@@ -1,5 +1,4 @@
 -- `rows::offers::best_offer` meets its contract.
-use mathlib.Core.Path.{◌≡◌}
 use native.Mathlib.Omega.{arith}
 use Rattle.rows.proofs.Best.{offers-none, offers-turn}
 use Rattle.rows.proofs.Records.{size-narrow}

@@ -1,7 +1,7 @@
 -- `rows::row::first_row` meets its contract.
 use native.Mathlib.Omega.{arith}
 use Rattle.journal.proofs.Gathered.{count-in}
-use Rattle.rows.proofs.Filled.{listed_none, listed-turn, listed-done}
+use Rattle.rows.proofs.Filled.{listed-turn, listed-done}
 use Rattle.rows.proofs.row.first_row.Goals as goal
 
 pub loop-i-preserved : goal.loop-i-preserved

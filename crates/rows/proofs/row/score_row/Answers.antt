@@ -21,11 +21,12 @@ pub loop-i-preserved : goal.loop-i-preserved
 loop-i-preserved c =
     let many = count-in _ c.requires.entries16 in
     let asked = c.requires.scorable in
-    let here = listed-at _ c.loop-i.invariant.listed (omega (arith, many)) asked.few in
+    let listed = c.loop-i.invariant.listed in
     record {
-      listed = c.loop-i.invariant.listed;
+      listed = listed;
       filled = filled-turn _ _ c.loop-i.invariant.filled (omega (arith, many, asked.parents-long)) (omega (arith, many, asked.scores-long))
-          (ap (λ (b : Previous). b.candidate) here) (ap (λ (b : Previous). b.score) here);
+          (ap (λ (b : Previous). b.candidate) (listed-at _ listed (omega (arith, many)) asked.few))
+          (ap (λ (b : Previous). b.score) (listed-at _ listed (omega (arith, many)) asked.few));
     }
 
 pub returns : goal.returns

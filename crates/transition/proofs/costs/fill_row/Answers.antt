@@ -1,5 +1,4 @@
 -- `transition::costs::fill_row` meets its contract.
-use native.Mathlib.Omega.{arith}
 use lib.ListN.{length}
 use Rattle.transition.proofs.Held.{part_length, row-filled, row-passed}
 use Rattle.transition.proofs.costs.fill_row.Goals as goal

@@ -1,10 +1,6 @@
 -- `transition::routes::element_routes` meets its contract.
-use mathlib.Core.Path.{◌≡◌, ◌∙◌}
+use mathlib.Core.Path.{◌∙◌}
 use native.Mathlib.Omega.{arith}
-use Rattle.network.specs.inner.Compiled.{graph_in}
-use Rattle.routing.specs.Route.{route}
-use Rattle.transition.specs.declared.routes.Routes.{Routes}
-use Rattle.transition.specs.Routes.{routes_by}
 use Rattle.transition.proofs.Held.{element-held, start-unknown, goal-unknown}
 use Rattle.transition.proofs.routes.element_routes.Goals as goal
 use Rattle.transition.proofs.routes.element_routes.Goals.{then-graph-leaving-via-then-graph-leaving, then-graph-leaving-via-else-graph-leaving+then-graph-entering}
