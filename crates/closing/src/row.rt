@@ -19,7 +19,8 @@ pub struct RowRead {
 }
 
 // A row, from 0: its minute, and its candidates' fields, parents and scores, and its distances into the buffers; or a refusal by check 7, by 13 where
-// it does not stand, or by 15 where a list is longer than its buffers. Entries past a list keep what they held.
+// it does not stand, or by 15 where a list is longer than its buffers. Entries past a list keep what they held. The buffers are lent one by one, as the
+// C interface has them.
 pub fn read_row(
     journal: &[u32],
     row: u32,
