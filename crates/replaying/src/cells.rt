@@ -12,14 +12,12 @@ use rows::previous::score_of;
 use rows::record::parent_of;
 
 // Whether candidate i has this parent and this score.
+#[tactic(auto, unfolding(crate::specs::inner::Comparing::same_cell))]
 fn cell_same(words: &[u32], i: usize, parent: u32, score: f64) -> bool
     requires { CandidateStands words.now i }
     ensures { result ≡ same_cell (cell_of (read_row words.now) i) parent score }
 {
-    if parent_of(words, i) != parent {
-        return false;
-    }
-    bits_of(score_of(words, i)) == bits_of(score)
+    parent_of(words, i) == parent && bits_of(score_of(words, i)) == bits_of(score)
 }
 
 // Whether each of them has its own of these.
@@ -27,10 +25,5 @@ pub fn cells_same(words: &[u32], count: usize, parents: &[u32; 16], scores: &[f6
     requires { RecordStands words.now count × (count ≤ 16) }
     ensures { result ≡ every_below count (λ i. same_cell (cell_of (read_row words.now) i) (get_or parents.now i 0) (get_or scores.now i nan)) }
 {
-    for i in 0..count {
-        if !cell_same(words, i, parents[i], scores[i]) {
-            return false;
-        }
-    }
-    true
+    (0..count).all(|i| cell_same(words, i, parents[i], scores[i]))
 }

@@ -18,6 +18,17 @@ use rows::record::{before_count, candidate_count, predecessor_place};
 use transition::step::Settings;
 use transition::track::Track;
 
+// A network that was checked, and a journal of elements that it knows, whose used words end at `end`.
+#[derive(Clone, Copy)]
+pub struct Standing<'a> {
+    pub net: &'a Network<'a>,
+    pub settings: Settings,
+    pub journal: &'a [u32],
+    pub end: usize,
+    ghost accepted: { checked net.now ≡ Ok tt },
+    ghost replayable: { Replayable (known_count net.now) (rows_in journal.now) journal.now end },
+}
+
 // How far the comparison came: a row's number, and where its record starts; past the last row, the end of the used words.
 #[derive(Clone, Copy)]
 pub struct Reached {
@@ -58,47 +69,35 @@ fn compare_stretch(
     Ok(Reached { row, at })
 }
 
-// From a row on, up to one of another minute than it; or the number of the first that differs. The network is compiled for its minute.
-fn compare_minute(
-    net: &Network<'_>,
-    settings: Settings,
-    journal: &[u32],
-    end: usize,
-    start: Reached,
-) -> Result<Reached, u32>
-    requires accepted { checked net.now ≡ Ok tt }
-    requires replayable { Replayable (known_count net.now) (rows_in journal.now) journal.now end }
-    requires compared { Compared (transition net.now settings) (rows_in journal.now) start × (start.at < end) }
-    ensures { let step = transition net.now settings in let rs = rows_in journal.now in
-        MatchResult result (λ r. Compared step rs r × (start.row < r.row)) (FirstDiffers step rs) }
-{
-    let minute = minute_of(&journal[start.at..]);
-    let graph = compile_network(net, minute);
-    let track = Track {
-        graph: &graph,
-        headings: net.headings,
-        flags: net.flags,
-    };
-    compare_stretch(&track, settings, minute, journal, end, start)
-}
-
-// The number of the first row that differs, if one does.
-pub fn compare_rows(
-    net: &Network<'_>,
-    settings: Settings,
-    journal: &[u32],
-    end: usize,
-) -> Option<u32>
-    requires accepted { checked net.now ≡ Ok tt }
-    requires replayable { Replayable (known_count net.now) (rows_in journal.now) journal.now end }
-    ensures { result ≡ first_differing (transition net.now settings) (rows_in journal.now) }
-{
-    let mut reached = Reached { row: 0, at: 1 };
-    while reached.at < end {
-        match compare_minute(net, settings, journal, end, reached) {
-            Ok(next) => reached = next,
-            Err(row) => return Some(row),
-        }
+impl Standing<'_> {
+    // From a row on, up to one of another minute than it; or the number of the first that differs. The network is compiled for its minute.
+    fn compare_minute(&self, start: Reached) -> Result<Reached, u32>
+        requires { Compared (transition self.now.net.now self.now.settings) (rows_in self.now.journal.now) start × (start.at < self.now.end) }
+        ensures { let step = transition self.now.net.now self.now.settings in let rs = rows_in self.now.journal.now in
+            MatchResult result (λ r. Compared step rs r × (start.row < r.row)) (FirstDiffers step rs) }
+    {
+        let net = self.net;
+        let minute = minute_of(&self.journal[start.at..]);
+        let graph = compile_network(net, minute);
+        let track = Track {
+            graph: &graph,
+            headings: net.headings,
+            flags: net.flags,
+        };
+        compare_stretch(&track, self.settings, minute, self.journal, self.end, start)
     }
-    None
+
+    // The number of the first row that differs, if one does.
+    pub fn compare_rows(&self) -> Option<u32>
+        ensures { result ≡ first_differing (transition self.now.net.now self.now.settings) (rows_in self.now.journal.now) }
+    {
+        let mut reached = Reached { row: 0, at: 1 };
+        while reached.at < self.end {
+            match self.compare_minute(reached) {
+                Ok(next) => reached = next,
+                Err(row) => return Some(row),
+            }
+        }
+        None
+    }
 }

@@ -7,7 +7,7 @@ ghost use Rattle.decoder.specs.Refusal.{refusal_of};
 ghost use Rattle.replaying.specs.Replay.{replay_read, replaying};
 ghost use Rattle.std.proofs.Math.Option.{none};
 
-use crate::compare::compare_rows;
+use crate::compare::Standing;
 use decoder::known::rows_known;
 use journal::check::read_journal;
 use network::check::check_network;
@@ -28,7 +28,13 @@ fn replay_journal(
     if !rows_known(journal, survey.rows, survey.used, net.lengths.len() as u32) {
         return Err(Refusal::Candidate);
     }
-    Ok(compare_rows(net, settings, journal, survey.used))
+    let standing = Standing {
+        net,
+        settings,
+        journal,
+        end: survey.used,
+    };
+    Ok(standing.compare_rows())
 }
 
 // All checks, then the number of the first row whose words differ from what feeding its own recorded fix on the rows before it would write, or none:

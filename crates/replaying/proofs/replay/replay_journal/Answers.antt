@@ -21,8 +21,8 @@ rows_known-requires c = rows-stand _ _ (sym c.read_journal.ensures ∙ c.in_ok-s
 pub returns-then-not-rows_known : goal.returns-then-not-rows_known
 returns-then-not-rows_known c = replay-unknown _ _ (sym c.read_journal.ensures ∙ c.in_ok-survey.was) _ _ (rw (ap (λ (n : Network). length n.lengths) c.net.view_is) at (sym c.rows_known.ensures ∙ c.if-not-rows_known.true))
 
-pub compare_rows-requires-clause-replayable : goal.compare_rows-requires-clause-replayable
-compare_rows-requires-clause-replayable c = replayable _ _ (sym c.read_journal.ensures ∙ c.in_ok-survey.was) _ (rw (ap (λ (n : Network). length n.lengths) c.net.view_is) at (sym c.rows_known.ensures ∙ c.if-not-rows_known.false))
+pub invariant_of-standing-clause-replayable : goal.invariant_of-standing-clause-replayable
+invariant_of-standing-clause-replayable c = replayable _ _ (sym c.read_journal.ensures ∙ c.in_ok-survey.was) _ (rw (ap (λ (n : Network). length n.lengths) c.net.view_is) at (sym c.rows_known.ensures ∙ c.if-not-rows_known.false))
 
 pub returns : goal.returns
 returns c = rw c.compare_rows.ensures (replay-compared _ _ (sym c.read_journal.ensures ∙ c.in_ok-survey.was) _ (rw (ap (λ (n : Network). length n.lengths) c.net.view_is) at (sym c.rows_known.ensures ∙ c.if-not-rows_known.false)) _)
