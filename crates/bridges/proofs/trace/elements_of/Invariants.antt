@@ -1,6 +1,4 @@
 -- What the loop of `bridges::trace::elements_of` keeps.
-use Prim.Native.Nat.{◌-◌}
-use lib.ListN.{length}
 use Rattle.bridges.proofs.Tracing.{Tracing}
 use Rattle.bridges.proofs.trace.elements_of.Given as goal
 
