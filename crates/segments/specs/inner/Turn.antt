@@ -15,42 +15,29 @@ use Rattle.segments.specs.declared.collapse.Collapsed.{Collapsed}
 
 -- on to a phase, at an entry
 abbrev pub go : Stage → Phase → ℕ → Stage
-go s p i = record { phase = p; at = i; total = s.total; fits = s.fits; count = s.count; read = s.read; write = s.write; decided = s.decided; changed = s.changed; refusal = s.refusal; current = s.current; gap = s.gap; out = s.out }
-
--- what is stored this turn
-abbrev pub stores : Stage → Segment → Stage
-stores s v = record { phase = s.phase; at = s.at; total = s.total; fits = s.fits; count = s.count; read = s.read; write = s.write; decided = s.decided; changed = s.changed; refusal = s.refusal; current = s.current; gap = s.gap; out = v }
+go s p i = record s { phase = p; at = i }
 
 -- so many entries are read and so many stored
 abbrev pub stands : Stage → ℕ → ℕ → Stage
-stands s r w = record { phase = s.phase; at = s.at; total = s.total; fits = s.fits; count = s.count; read = r; write = w; decided = s.decided; changed = s.changed; refusal = s.refusal; current = s.current; gap = s.gap; out = s.out }
+stands s r w = record s { read = r; write = w }
 
 -- the current segment, and those seen after it
 abbrev pub holds : Stage → Segment → Gap → Stage
-holds s c g = record { phase = s.phase; at = s.at; total = s.total; fits = s.fits; count = s.count; read = s.read; write = s.write; decided = s.decided; changed = s.changed; refusal = s.refusal; current = c; gap = g; out = s.out }
+holds s c g = record s { current = c; gap = g }
 
 -- how many decisions there are, and whether this pass made one
 abbrev pub counts : Stage → ℕ → Bool → Stage
-counts s k b = record { phase = s.phase; at = s.at; total = s.total; fits = s.fits; count = s.count; read = s.read; write = s.write; decided = k; changed = b; refusal = s.refusal; current = s.current; gap = s.gap; out = s.out }
+counts s k b = record s { decided = k; changed = b }
 
 -- so many entries are left for the next pass
 abbrev pub leaves : Stage → ℕ → Stage
-leaves s n = record { phase = s.phase; at = s.at; total = s.total; fits = s.fits; count = n; read = s.read; write = s.write; decided = s.decided; changed = s.changed; refusal = s.refusal; current = s.current; gap = s.gap; out = s.out }
+leaves s n = record s { count = n }
 
 -- over, with a check that failed
 abbrev pub fails : Stage → Refusal → Stage
-fails s k = record { phase = Phase.Over; at = s.at; total = s.total; fits = s.fits; count = s.count; read = s.read; write = s.write; decided = s.decided; changed = s.changed; refusal = Some k; current = s.current; gap = s.gap; out = s.out }
+fails s r = record s { phase = Phase.Over; refusal = Some r }
 
 -- ---- phases
-
--- those in which a turn stores an entry
-unfoldable pub is_storing : Phase → Bool
-is_storing Phase.Over = false
-is_storing Phase.Checking = false
-is_storing Phase.Loading = false
-is_storing Phase.Looking = false
-is_storing Phase.Keeping = true
-is_storing Phase.Clearing = true
 
 -- one thing for each phase
 module _ {ℓ} {A : Type ℓ} where
@@ -65,7 +52,7 @@ module _ {ℓ} {A : Type ℓ} where
 -- ---- turns
 
 unfoldable pub stage_begun : ℕ → ℕ → Stage
-stage_begun n m = record { phase = cond (eqb n 0) Phase.Over Phase.Checking; at = 0; total = n; fits = leb n (m / 6); count = n; read = 0; write = 0; decided = 0; changed = false; refusal = None; current = zero_segment; gap = empty_gap; out = zero_segment }
+stage_begun n m = record { phase = cond (eqb n 0) Phase.Over Phase.Checking; at = 0; total = n; fits = leb n (m / 6); count = n; read = 0; write = 0; decided = 0; changed = false; refusal = None; current = zero_segment; gap = empty_gap }
 
 -- on to the next after those between; no further than the pass's entries, or than a fourth between
 unfoldable pub sought : Stage → Stage
@@ -109,15 +96,19 @@ looked_words s v ws =
 -- the current segment is stored: the next is loaded, or a new pass begins, or what is past the count is cleared
 unfoldable pub current_kept : Stage → Stage
 current_kept s =
-    cond (ltb s.read s.count) (go (stands (stores s s.current) s.read (s.write + 1)) Phase.Loading s.read)
-    (cond s.changed (go (counts (stands (leaves (stores s s.current) (s.write + 1)) 0 0) s.decided false) Phase.Loading 0)
-    (cond (ltb (s.write + 1) s.total) (go (stands (leaves (stores s s.current) (s.write + 1)) s.read (s.write + 1)) Phase.Clearing (s.write + 1))
-    (go (stands (leaves (stores s s.current) (s.write + 1)) s.read (s.write + 1)) Phase.Over s.at)))
+    cond (ltb s.read s.count) (go (stands s s.read (s.write + 1)) Phase.Loading s.read)
+    (cond s.changed (go (counts (stands (leaves s (s.write + 1)) 0 0) s.decided false) Phase.Loading 0)
+    (cond (ltb (s.write + 1) s.total) (go (stands (leaves s (s.write + 1)) s.read (s.write + 1)) Phase.Clearing (s.write + 1))
+    (go (stands (leaves s (s.write + 1)) s.read (s.write + 1)) Phase.Over s.at)))
 
 unfoldable pub cleared : Stage → Stage
 cleared s =
-    cond (ltb (s.write + 1) s.total) (go (stands (stores s zero_segment) s.read (s.write + 1)) s.phase (s.write + 1))
-    (go (stands (stores s zero_segment) s.read (s.write + 1)) Phase.Over s.at)
+    cond (ltb (s.write + 1) s.total) (go (stands s s.read (s.write + 1)) s.phase (s.write + 1))
+    (go (stands s s.read (s.write + 1)) Phase.Over s.at)
+
+-- what a turn stores at the entry, if it does
+unfoldable pub stored : Stage → Option Segment
+stored s = phased s.phase None None None None (Some s.current) (Some zero_segment)
 
 unfoldable pub turned : Stage → Segment → Stage
 turned s v = phased s.phase s (segment_checked s v) (loaded s v) (looked s v) (current_kept s) (cleared s)

@@ -25,17 +25,17 @@ returns-in_err-b c =
 pub loop-b-init : goal.loop-b-init
 loop-b-init c = storing-begin _ _ _ _ c.in_ok-b.ensures.begun
 
-pub next-b-requires : goal.next-b-requires
-next-b-requires c = record { stands = c.loop-b.invariant.stands; more = c.in-Some.is }
+pub next-requires : goal.next-requires
+next-requires c = record { stands = c.loop-b.invariant.stands; more = c.in-Some.is }
 
 pub bounds-segments-b : goal.bounds-segments-b
-bounds-segments-b c = turn_at _ _ _ _ _ _ c.loop-b.invariant _ c.next-b.ensures
+bounds-segments-b c = turn_at _ _ _ _ _ _ c.loop-b.invariant _ c.next.ensures
 
 pub loop-b-smaller : goal.loop-b-smaller
-loop-b-smaller c = turn-less _ _ _ _ _ _ c.loop-b.invariant _ c.next-b.ensures
+loop-b-smaller c = turn-less _ _ _ _ _ _ c.loop-b.invariant _ c.next.ensures
 
 pub loop-b-preserved : goal.loop-b-preserved
-loop-b-preserved c = storing-turn _ _ _ _ _ _ c.loop-b.invariant _ c.next-b.ensures
+loop-b-preserved c = storing-turn _ _ _ _ _ _ c.loop-b.invariant _ c.next.ensures
 
 pub returns : goal.returns
 returns c = (sym c.loop-b.invariant.answer, storing-end _ _ _ _ _ _ c.loop-b.invariant (search rules))
