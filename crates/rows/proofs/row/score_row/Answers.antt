@@ -6,13 +6,13 @@ use Rattle.journal.proofs.Gathered.{count-in}
 use Rattle.rows.proofs.Filled.{filled_none, filled-turn, filled-done, listed-at}
 use Rattle.rows.proofs.Rows.{first-scored, row-stored}
 use Rattle.rows.proofs.row.score_row.Goals as goal
-use Rattle.rows.proofs.row.score_row.Goals.{then-before-eq0, else-before-eq0}
+use Rattle.rows.proofs.row.score_row.Goals.{then-first, else-first}
 
 pub loop-i-init : goal.loop-i-init
 loop-i-init c = record {
-  listed = elim c.if-before-eq0.branch [
-    | then-before-eq0 w ↦ rw w.row-is (first-scored _ _ _ _ w.if-before-eq0.true w.first_row-row.ensures)
-    | else-before-eq0 w ↦ rw w.row-is w.next_row-row.ensures
+  listed = elim c.if-first.branch [
+    | then-first w ↦ rw w.row-is (first-scored _ _ _ _ w.if-first.true w.first_row-row.ensures)
+    | else-first w ↦ rw w.row-is w.next_row-row.ensures
   ];
   filled = filled_none _ _ _;
 }
