@@ -73,12 +73,6 @@ each_number P g k (a ∷ l) h = (h k a, each_number P g (suc k) l h)
 
 -- ---- what is read and stored
 
--- inside a list the default is not read
-pub default-inside : {A : Type 0} (l : List A) (i : ℕ) (d e : A) → i < length l → get_or l i d ≡ get_or l i e
-default-inside [] i d e h = absurd (omega arith)
-default-inside (a ∷ l) zero d e h = refl
-default-inside (a ∷ l) (suc i) d e h = default-inside l i d e (omega arith)
-
 -- each entry below the stored one, and that one
 pub set_below : {A : Type 0} (l : List A) (k : ℕ) (a d : A) (f : ℕ → A) → k < length l → ((i : ℕ) → i < k → get_or l i d ≡ f i) → a ≡ f k → (i : ℕ) → i < k + 1 → get_or (set l k a) i d ≡ f i
 set_below l k a d f h e q i m =

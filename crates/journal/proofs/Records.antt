@@ -200,17 +200,6 @@ module _ (w : ℕ) (body : List ℕ) where
       (λ k. well_read float_words read_distance distance_ok (drop (first_cell + 7 * head_count w + 1 + 2 * k) (w ∷ body)))
       (λ k. ap (well_read float_words read_distance distance_ok) (ap (drop (2 * k)) past-gap ∙ drop-drop (2 * k) (first_cell + 7 * head_count w + 1) (w ∷ body)))
 
--- where all but the last word pass, the last word decides
-pub body-last : (place since c p n : ℕ) (ws : List ℕ) (l m : ℕ) → l ≡ record_length c p → m ≡ c * p
-    → eqb (get_or ws 1 0) (predecessor_word place) ≡ true
-    → minute_reads since (get_or ws 2 0) ≡ true
-    → every_below c (λ k. well_read cell_words read_cell (cell_ok p n) (drop (first_cell + 7 * k) ws)) ≡ true
-    → eqb (get_or ws (first_cell + 7 * c) 0) (distances_word m) ≡ true
-    → every_below m (λ k. well_read float_words read_distance distance_ok (drop (first_cell + 7 * c + 1 + 2 * k) ws)) ≡ true
-    → eqb (get_or ws (l - 1) 0) (length_word l) ≡ body_reads place since c p n ws
-unfolding body_reads
-body-last place since c p n ws l m e f v t a b d = rw (← e, ← f, v, t, a, b, d)
-
 -- ---- the whole record
 
 module _ (place since q n w : ℕ) (body : List ℕ) where

@@ -1,4 +1,5 @@
-// Columns of a record, stored in the first entries of lent buffers.
+// Columns of a record, stored in the first entries of lent buffers: one loop for each kind of entry, since a loop that is lent what to read is no
+// shorter.
 ghost use Rattle.std.specs.Prelude.{◌≡◌, ◌+◌, ◌*◌, ◌/◌, ◌%◌, get_or};
 ghost use Rattle.journal.specs.Record.{first_cell, float_at};
 ghost use Rattle.journal.specs.inner.Buffer.{FieldsStand, FloatsStand, entries_stored};

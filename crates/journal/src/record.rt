@@ -56,6 +56,7 @@ fn put_cells(words: &mut [u32], fix: Candidates, parents: &[u32; 16], scores: &[
     ensures { let cells = cells_of (candidates_in fix) parents.now scores.now in
         words.new ≡ sets words.old first_cell (flat cell_words cells) }
 {
+    // by index: candidates, parents and scores side by side
     for k in 0..fix.count {
         let c = own_candidate(fix, k);
         put_cell(words, FIRST_CELL + 7 * k, c, parents[k], scores[k]);
