@@ -9,7 +9,7 @@ pub returns : goal.returns
 unfolding elements_differ
 returns c =
     let differ : ℕ → ℕ → Bool = λ a b. not (nat_eq a b) in
-    let x = YieldsList-from_slice c.args.from.now (search rules) in
-    let y = YieldsList-from_slice c.args.to.now (search rules) in
-    folded-all (λ (p : ℕ × ℕ). differ p.0 p.1) _ _ c.fold.ensures.ran (YieldsList-from_zip x y) (λ ok z b q k. (search rules, search rules))
+    folded-all (λ (p : ℕ × ℕ). differ p.0 p.1) _ _ c.fold.ensures.ran
+    (YieldsList-from_zip (YieldsList-from_slice c.args.from.now (search rules)) (YieldsList-from_slice c.args.to.now (search rules)))
+    (λ ok z b q k. (search rules, search rules))
     ∙ all-pairs differ 0 0 _ _ c.requires

@@ -9,7 +9,7 @@ pub returns : goal.returns
 unfolding sides_fit
 returns c =
     let fit : ℕ → ℕ → Bool = λ a b. leb a 1 && leb b 1 in
-    let x = YieldsList-from_slice c.args.from_side.now (search rules) in
-    let y = YieldsList-from_slice c.args.to_side.now (search rules) in
-    folded-all (λ (p : ℕ × ℕ). fit p.0 p.1) _ _ c.fold.ensures.ran (YieldsList-from_zip x y) (λ ok z b q k. (search rules, search rules))
+    folded-all (λ (p : ℕ × ℕ). fit p.0 p.1) _ _ c.fold.ensures.ran
+    (YieldsList-from_zip (YieldsList-from_slice c.args.from_side.now (search rules)) (YieldsList-from_slice c.args.to_side.now (search rules)))
+    (λ ok z b q k. (search rules, search rules))
     ∙ all-pairs fit 0 0 _ _ c.requires

@@ -1,13 +1,13 @@
--- `network::compile::compile_network` meets its contract.
-use Rattle.std.proofs.Common.{rules, refl}
+-- `network::compile::compile_into` meets its contract.
+use Rattle.std.proofs.Common.{rules, length, ◌≡◌}
 use mathlib.Core.Logic.{inl, inr}
-use Rattle.network.specs.inner.Compiled.{no_links}
 use Rattle.network.proofs.Compiling.{added_none, added-all, link-fits, added-more}
-use Rattle.network.proofs.compile.compile_network.Goals as goal
+use Rattle.network.proofs.compile.compile_into.Goals as goal
 
 pub loop-k-init : goal.loop-k-init
-unfolding no_links
-loop-k-init c = added_none c.args.net.now _ c.requires.lengths_bound c.requires.relations_fit (search rules) (rw (← c.net.view_is) refl)
+loop-k-init c =
+    let all : length c.compiled.inside.heads ≡ 2048 = search rules in
+    added_none c.args.net.now _ c.requires.lengths_bound c.requires.relations_fit (search rules) _ (search rules) (rw all at c.fill.ensures.after (λ y e. e)) (search rules)
 
 pub add_link-requires-clause-nodes_bound : goal.add_link-requires-clause-nodes_bound
 add_link-requires-clause-nodes_bound c =
