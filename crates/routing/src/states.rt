@@ -43,6 +43,7 @@ fn write_back(preds: &[u16; 4096], s: usize, n: usize, states: &mut [u32])
 }
 
 // The states back from s are listed, where the buffer has room for them.
+#[tactic(auto, unfolding(crate::specs::Route::route_fitted, crate::specs::Route::states_stored))]
 fn list_back(
     preds: &[u16; 4096],
     start: usize,
