@@ -8,6 +8,7 @@ ghost use Rattle.replaying.specs.inner.Comparing.{RecordsStand, same_row};
 use crate::cells::cells_same;
 use journal::buffer::copy_floats;
 use journal::record::{FIRST_CELL, distance_count};
+use rows::previous::NO_PARENT;
 use rows::record::{before_count, candidate_count, candidates_at};
 use rows::row::score_row;
 use transition::step::Settings;
@@ -25,7 +26,7 @@ pub fn row_same(track: &Track<'_>, settings: Settings, own: &[u32], previous: &[
     let n = distance_count(count, before);
     let mut distances = [0.0; 256];
     copy_floats(own, FIRST_CELL + 7 * count + 1, 2, n, &mut distances);
-    let mut parents = [31u32; 16];
+    let mut parents = [NO_PARENT; 16];
     let mut scores = [0.0; 16];
     score_row(
         track,

@@ -60,13 +60,11 @@ fix_plan known s v g =
     let n = length g.elements in
     let p = before_of (candidates_of v.latest) n in
     or_refuse Refusal.CandidateCount (counts_ok g)
-    (or_refuse Refusal.Candidate (each (candidate_ok known) (fix_given g).candidates)
-    (or_refuse Refusal.Candidate (known_read known (read_journal s))
-    (or_refuse Refusal.Distances (eqb (length g.distances) (n * p))
-    (or_refuse Refusal.Distances (each distance_ok g.distances)
+    (or_refuse Refusal.Candidate (each (candidate_ok known) (fix_given g).candidates && known_read known (read_journal s))
+    (or_refuse Refusal.Distances (eqb (length g.distances) (n * p) && each distance_ok g.distances)
     (or_refuse Refusal.Minute (ltb g.minute minute_limit && leb v.minute g.minute)
     (or_refuse Refusal.RowLimit (ltb v.rows row_limit)
-    (or_refuse Refusal.Room (leb (v.used + record_length n p) (length s)) (Ok (record { end = v.used; latest = v.latest })))))))))
+    (or_refuse Refusal.Room (leb (v.used + record_length n p) (length s)) (Ok (record { end = v.used; latest = v.latest })))))))
 
 -- ---- a fix that is written
 

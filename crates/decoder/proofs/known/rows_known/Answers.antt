@@ -18,8 +18,8 @@ offset_bounds-journal-at c = omega (arith, known-room _ _ _ _ _ c.loop.invariant
 pub bounds-journal-at : goal.bounds-journal-at
 bounds-journal-at c = omega (arith, known-room _ _ _ _ _ c.loop.invariant c.loop-test.true)
 
-pub overflow_sub-at : goal.overflow_sub-at
-overflow_sub-at c = (known-room _ _ _ _ _ c.loop.invariant c.loop-test.true).2
+pub overflow_sub-at-in-loop : goal.overflow_sub-at-in-loop
+overflow_sub-at-in-loop c = (known-room _ _ _ _ _ c.loop.invariant c.loop-test.true).2
 
 pub offset_bounds-journal-at-in-loop : goal.offset_bounds-journal-at-in-loop
 offset_bounds-journal-at-in-loop c = omega (arith, known-room _ _ _ _ _ c.loop.invariant c.loop-test.true)
