@@ -30,9 +30,8 @@ use Rattle.rows.specs.declared.previous.Previous.{Previous}
 use Rattle.decoder.specs.Closing.{Pairs, Closed, nothing, path, closing}
 use Rattle.decoder.specs.Call.{gave, refused, path_length, close_read, closing_on}
 use Rattle.journal.specs.inner.Rows.{rows_in, rows_read}
-use Rattle.closing.specs.inner.Walk.{first_rows, Reached, path_from, column, Scoring, Started}
-use Rattle.closing.specs.Close.{PairField, pair_row, pair_candidate, close_answer, close_stored}
-use Rattle.closing.specs.declared.walk.Back.{Back}
+use Rattle.closing.specs.inner.Walk.{first_rows, path_from, column, Scoring, Started}
+use Rattle.closing.specs.Close.{PairField, close_answer, close_stored}
 use Rattle.closing.specs.declared.start.Start.{Start}
 use Rattle.closing.proofs.Best.{best-below}
 use Rattle.closing.proofs.Steps.{obey-low, obey-room, first-all}

@@ -2,7 +2,7 @@
 use Prim.Native.Nat.{ℕ, suc, ◌+◌, ◌*◌, ◌-◌, ◌/◌, ◌%◌, ◌<◌, ◌≤◌, min}
 use native.Mathlib.Nat.{div-one, mul-le-mul}
 use native.Mathlib.Omega.{arith}
-use Rattle.std.specs.Prelude.{Ok, Err}
+use Rattle.std.specs.Prelude.{Result, Ok, Err}
 use mathlib.Core.Option.{Option as Maybe, none, some}
 use mathlib.Core.Path.{◌≡◌, refl, sym, ap, ◌∙◌}
 use mathlib.Core.List.{List, ◌∷◌, map}
@@ -151,6 +151,11 @@ module _ (ws : List ℕ) where
               let distance = λ (k : ℕ) (i : k < pairs). ap (λ (n : ℕ). float_at ws (first_cell + 7 * n + 1 + 2 * k)) c ∙ sym (row-distance ws nan k (rw (← c, ← p, ← e) i)) in
               let e7 = q7 ∙ entries-listed nan (read_row ws).distances b.distances (λ k. float_at ws (first_cell + 7 * count + 1 + 2 * k)) number d distance in
               rw row_fits (rw (e1, e2, e3, e4, e5, e6, e7))
+
+-- a refusal is answered, and leaves the buffers as they were
+pub row-refused : {l : Result Row Refusal} {k : Refusal} (b : RowBuffers) → l ≡ Err k → (Err k ≡ row_answer l) × (b ≡ filled l b)
+unfolding row_answer filled
+row-refused b e = rw e (refl, refl)
 
 -- ---- a row at its place in the journal
 

@@ -1,28 +1,26 @@
 -- `closing::row::read_row` meets its contract.
-use mathlib.Core.Path.{refl, sym, ◌∙◌}
+use mathlib.Core.Path.{sym, ◌∙◌}
 use Prim.Native.Nat.{◌+◌, ◌≤◌}
 use native.Mathlib.Omega.{arith}
 use lib.ListN.{length}
 use Rattle.std.proofs.lemmas.Result.{err_from_is_err_and}
 use Rattle.journal.specs.Record.{first_cell}
 use Rattle.journal.specs.inner.Buffer.{RecordWhole}
-use Rattle.closing.specs.Row.{row_buffers_of, row_answer, filled}
-use Rattle.closing.proofs.Rows.{Rooms, rooms, same-room, words_from, row-unread, row-past, row-standing, row-place, row-whole, row-reading, head-whole, fields-stand, floats-stand, distances-stand, row-longer, distances-longer, row-answer, row-filled}
+use Rattle.closing.specs.Row.{row_buffers_of}
+use Rattle.closing.proofs.Rows.{Rooms, rooms, same-room, words_from, row-unread, row-past, row-standing, row-place, row-whole, row-reading, row-refused, head-whole, fields-stand, floats-stand, distances-stand, row-longer, distances-longer, row-answer, row-filled}
 use Rattle.closing.proofs.row.read_row.Goals as goal
 use Rattle.closing.proofs.row.read_row.Goals.{After-end_before, Else-min-count}
 
 pub returns-in_err-survey : goal.returns-in_err-survey
-unfolding row_answer filled
 returns-in_err-survey c = let a = c.args in
     let p = err_from_is_err_and c.from_residual.result c.from_residual.ensures.1 in
     let lent = row_buffers_of a.elements.now a.intrinsics.now a.near.now a.raw_logs.now a.parents.now a.scores.now a.distances.now in
-    let e = row-unread a.journal.now a.row lent (sym c.read_journal.ensures ∙ c.in_err-survey.was) in rw (p.1, p.2, e) (refl, refl)
+    let e = row-unread a.journal.now a.row lent (sym c.read_journal.ensures ∙ c.in_err-survey.was) in rw (p.1, p.2) (row-refused lent e)
 
 pub returns-then-survey-number : goal.returns-then-survey-number
-unfolding row_answer filled
 returns-then-survey-number c = let a = c.args in
     let lent = row_buffers_of a.elements.now a.intrinsics.now a.near.now a.raw_logs.now a.parents.now a.scores.now a.distances.now in
-    let e = row-past a.journal.now (sym c.read_journal.ensures ∙ c.in_ok-survey.was) _ lent c.if-survey-number.true in rw e (refl, refl)
+    let e = row-past a.journal.now (sym c.read_journal.ensures ∙ c.in_ok-survey.was) _ lent c.if-survey-number.true in row-refused lent e
 
 pub end_before-requires : goal.end_before-requires
 end_before-requires c = row-standing c.args.journal.now (sym c.read_journal.ensures ∙ c.in_ok-survey.was) _ c.if-survey-number.false
@@ -57,22 +55,20 @@ minute_of-requires c = head-whole _ (whole (goal.at.minute_of-requires c).After-
 
 -- the buffers have room
 pub returns-then-min-count : goal.returns-then-min-count
-unfolding row_answer filled
 returns-then-min-count c = let a = c.args in
     let lent = row_buffers_of a.elements.now a.intrinsics.now a.near.now a.raw_logs.now a.parents.now a.scores.now a.distances.now in
     let read = row-reading a.journal.now (sym c.read_journal.ensures ∙ c.in_ok-survey.was) _ c.if-survey-number.false c.end_before.ensures lent in
     let longer = rw (same-room lent c.min.ensures c.min-words_room.ensures c.min-2.ensures c.min-floats_room.ensures c.min-3.ensures) at c.if-min-count.true in
     let e = read ∙ row-longer _ (whole (goal.at.returns-then-min-count c).After-end_before) c.candidate_count-count.ensures c.before_count-before.ensures c.distance_count-pairs.ensures.pairs lent longer in
-    rw e (refl, refl)
+    row-refused lent e
 
 pub returns-then-distances-pairs : goal.returns-then-distances-pairs
-unfolding row_answer filled
 returns-then-distances-pairs c = let a = c.args in
     let lent = row_buffers_of a.elements.now a.intrinsics.now a.near.now a.raw_logs.now a.parents.now a.scores.now a.distances.now in
     let read = row-reading a.journal.now (sym c.read_journal.ensures ∙ c.in_ok-survey.was) _ c.if-survey-number.false c.end_before.ensures lent in
     let fit = rw (same-room lent c.min.ensures c.min-words_room.ensures c.min-2.ensures c.min-floats_room.ensures c.min-3.ensures) at c.if-min-count.false in
     let e = read ∙ distances-longer _ (whole (goal.at.returns-then-distances-pairs c).After-end_before) c.candidate_count-count.ensures c.before_count-before.ensures c.distance_count-pairs.ensures.pairs lent fit c.if-distances-pairs.true in
-    rw e (refl, refl)
+    row-refused lent e
 
 fits : (c : Else-min-count) → Rooms c.candidate_count-count.result (row_buffers_of c.args.elements.now c.args.intrinsics.now c.args.near.now c.args.raw_logs.now c.args.parents.now c.args.scores.now c.args.distances.now)
 fits c = let a = c.args in

@@ -1,5 +1,5 @@
 -- `steps::find::find_row` meets its contract.
-use mathlib.Core.Path.{refl, sym, ◌∙◌}
+use mathlib.Core.Path.{sym, ◌∙◌}
 use Rattle.std.proofs.lemmas.Result.{err_from_is_err_and}
 use Rattle.decoder.proofs.KnownRows.{rows-stand}
 use Rattle.steps.proofs.Earlier.{row-stands, found-not, found-unknown, found-past, found-row}

@@ -1,6 +1,5 @@
 -- `steps::fill::TwoRows::pair_step` meets its contract.
-use mathlib.Core.Path.{sym, ap, ◌∙◌}
-use Rattle.transition.specs.inner.Track.{TrackLists}
+use mathlib.Core.Path.{sym, ◌∙◌}
 use Rattle.steps.proofs.Records.{own-some, own-stands, pair-stands, routes-inside, pair-none, pair-some}
 use Rattle.steps.proofs.fill.TwoRows.pair_step.Goals as goal
 
