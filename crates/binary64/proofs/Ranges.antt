@@ -1,11 +1,15 @@
 -- What a range test tells: the order on both sides, that the value is no NaN, and finite between finite ends. And what the sign bit tells. Assumes nothing.
 use mathlib.Core.Path.{◌≡◌, refl}
 use mathlib.Core.Bool.{true, false, not}
-use lib.Dec.{T}
-use lib.Ieee.{Float, nan, inf, fin, eq, le, lt, is_nan}
+use Prim.Native.Nat.{ℕ, zero, suc, ◌^◌, ◌<◌, ◌≤◌}
+use native.Mathlib.Omega.{arith}
+use lib.Dec.{T, ltb}
+use lib.IntN.{ℤ}
+use lib.Ieee.{Float, nan, inf, fin, binary64, eq, le, lt, is_nan, fits, to_bits}
+use lib.Ieee.Bits.{to_bits-lt}
 use lib.Ieee.Fits.{and_l, and_r}
 use lib.Ieee.Scale.{finite}
-use Rattle.std.specs.Float.{NotNan, is_sign_negative}
+use borrow.Author.Tests.{lt-ltb, le-ltb}
 use Rattle.binary64.specs.Values.{clear, is_minus_infinity}
 use Rattle.binary64.specs.Ranges.{in_range, in_clear_range, in_open_range}
 use Rattle.binary64.proofs.Order.{le_right, taken}
@@ -44,11 +48,27 @@ module _ (low high x : Float) where
 
 -- ---- the sign bit
 
-pub clear-sign : (x : Float) → NotNan x → not (is_sign_negative x) ≡ clear x
-unfolding is_nan is_sign_negative
-clear-sign nan n = absurd n
-clear-sign (inf s) n = refl
-clear-sign (fin s m e) n = refl
+-- the bits below the sign are the same whatever the sign
+below-sign : (m : ℕ) (e : ℤ) → T (fits binary64 (fin true m e)) → to_bits binary64 (fin false m e) < 2 ^ 63
+unfolding to_bits
+below-sign m e f = omega (arith, to_bits-lt binary64 (fin true m e) f)
+
+sign_set : (m : ℕ) (e : ℤ) → 2 ^ 63 ≤ to_bits binary64 (fin true m e)
+unfolding to_bits
+sign_set m e = omega arith
+
+fits_negative : (m : ℕ) (e : ℤ) → T (fits binary64 (fin false m e)) → T (fits binary64 (fin true m e))
+unfolding fits
+fits_negative zero e f = f
+fits_negative (suc m) e f = f
+
+pub sign_bit : (x : Float) → T (fits binary64 x) → T (not (is_nan x)) → ltb (to_bits binary64 x) 0x8000000000000000 ≡ clear x
+unfolding is_nan
+sign_bit nan f n = absurd n
+sign_bit (inf true) f n = unfold to_bits in refl
+sign_bit (inf false) f n = unfold to_bits in refl
+sign_bit (fin true m e) f n = le-ltb _ _ (sign_set m e)
+sign_bit (fin false m e) f n = lt-ltb _ _ (below-sign m e (fits_negative m e f))
 
 -- ---- minus infinity
 

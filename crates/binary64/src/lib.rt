@@ -32,12 +32,12 @@ pub fn in_range(x: f64, low: f64, high: f64) -> bool
     low <= x && x <= high
 }
 
-// From low to high, with the sign bit clear.
+// From low to high, with the sign bit clear. By the bits: LLVM makes a branch of `is_sign_positive`.
 #[tactic(auto, unfolding(crate::specs::Ranges::in_clear_range))]
 pub fn in_clear_range(x: f64, low: f64, high: f64) -> bool
     ensures { result ≡ in_clear_range low high x }
 {
-    in_range(x, low, high) && x.is_sign_positive()
+    in_range(x, low, high) && x.to_bits() < 0x8000_0000_0000_0000
 }
 
 // From low up to, and without, high.
