@@ -2,7 +2,18 @@
 use crate::list::{FILL_SEGMENT, List, SEGMENTS, print_segments, same_segment};
 use answers::session::Session;
 use segments::build::build_path_from_viterbi;
+use segments::segment::Segment;
 use text::keyword::Slice;
+
+// Whether every segment holds the fill.
+fn is_filled(segments: &[Segment]) -> bool {
+    for segment in segments {
+        if !same_segment(*segment, FILL_SEGMENT) {
+            return false;
+        }
+    }
+    true
+}
 
 impl List {
     // The list is built of the journal's best path.
@@ -23,9 +34,6 @@ impl List {
             }
             Err(refusal) => session.out.refusal(b"segments", refusal),
         }
-        session.kept = built
-            .iter()
-            .skip(n)
-            .all(|segment| same_segment(*segment, FILL_SEGMENT));
+        session.kept = is_filled(&built[n.min(SEGMENTS)..]);
     }
 }

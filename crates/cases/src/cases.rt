@@ -10,29 +10,26 @@ use text::keyword::Keyword;
 use text::list::first;
 
 // The most words that a journal has, so that 10,000 rows of 4 candidates fit, which take 65 words each.
-pub const JOURNAL_WORDS: usize = 700000;
-
 const MOST_WORDS: u32 = 700000;
 
-// What the program holds between two lines of its input: beside what the programs share, the journal, of which so many words are used, and a list of
-// segments.
+// What the program holds between two lines of its input: beside what the programs share, room for a journal, which has so many words of it, and a list
+// of segments.
 #[derive(Drop)]
-pub struct Cases {
+pub struct Cases<'a> {
     pub session: Session,
-    pub journal: [u32; JOURNAL_WORDS],
+    pub journal: &'a mut [u32],
     pub words: usize,
     pub list: List,
 }
 
-impl Cases {
+impl Cases<'_> {
     // A journal of so many words, each FFFFFFFF, then opened.
     fn new_journal(&mut self, words: &mut Words<'_>) {
         let n = words.count(MOST_WORDS) as usize;
-        if !words.bad() && n <= JOURNAL_WORDS {
+        if !words.bad() && n <= self.journal.len() {
             self.words = n;
             let session = &mut self.session;
-            let all = &mut self.journal[..];
-            let journal = &mut all[..n];
+            let journal = &mut self.journal[..n];
             journal.fill(4294967295);
             session.open(journal);
         }
@@ -50,9 +47,8 @@ impl Cases {
     // The lines that read or change the journal.
     fn answer_on_journal(&mut self, keyword: Keyword, words: &mut Words<'_>) {
         let session = &mut self.session;
-        let n = self.words.min(JOURNAL_WORDS);
-        let all = &mut self.journal[..];
-        let journal = &mut all[..n];
+        let n = self.words.min(self.journal.len());
+        let journal = &mut self.journal[..n];
         match keyword {
             Keyword::Poke => poke(words, journal),
             Keyword::Open => session.open(journal),
@@ -82,7 +78,7 @@ impl Cases {
             Keyword::Journal => self.new_journal(words),
             Keyword::Kept => self.tell_kept(),
             Keyword::Segments => {
-                let journal = first(&self.journal, self.words);
+                let journal = first(self.journal, self.words);
                 self.list.build(session, journal);
             }
             Keyword::Collapse => self.list.collapse(words, session),
@@ -92,7 +88,7 @@ impl Cases {
 
     // The journal is just the words of a `load` from now on.
     fn load(&mut self, input: &mut Input<'_>) -> io::Result<()> {
-        let n = input.load_count(MOST_WORDS).min(JOURNAL_WORDS);
+        let n = input.load_count(MOST_WORDS).min(self.journal.len());
         input.load(&mut self.journal[..n])?;
         self.words = n;
         Ok(())

@@ -6,7 +6,7 @@ mod cases;
 mod collapsing;
 mod list;
 
-use crate::cases::{Cases, JOURNAL_WORDS};
+use crate::cases::Cases;
 use crate::list::List;
 use answers::input::Input;
 use answers::session::Session;
@@ -15,12 +15,15 @@ use std::io;
 // A stretch of the input: twice what a line may take.
 const TEXT_BYTES: usize = 2097152;
 
+const JOURNAL_WORDS: usize = 700000;
+
 fn main(rt: HostRuntime) -> io::Result<()> {
     let mut text = [0; TEXT_BYTES];
     let mut input = Input::new(&mut text, rt.stdin());
+    let mut journal = [0; JOURNAL_WORDS];
     let mut cases = Cases {
         session: Session::new(rt.stdout()),
-        journal: [0; JOURNAL_WORDS],
+        journal: &mut journal,
         words: 0,
         list: List::empty(),
     };
