@@ -1,5 +1,5 @@
 -- A turn of the loops that look for a word, and their ends. Assumes nothing.
-use Prim.Native.Nat.{ℕ, zero, suc, ◌+◌, ◌-◌, ◌≤◌, ◌<◌, max, zero-le, suc-le-suc}
+use Prim.Native.Nat.{ℕ, zero, suc, ◌+◌, ◌-◌, ◌≤◌, ◌<◌, min, max, zero-le, suc-le-suc}
 use native.Mathlib.Nat.{add-zero, add-suc, suc-add, le_of_suc-le-suc, not-suc-le-zero}
 use native.Mathlib.Numerals.{add-one}
 use native.Mathlib.Omega.{arith}
@@ -8,10 +8,11 @@ use mathlib.Core.Bool.{Bool, true, false, not, ◌||◌, cond}
 use mathlib.Core.List.{List, [], ◌∷◌}
 use mathlib.Core.Logic.{⊎_elim}
 use lib.Dec.{leb, ltb}
-use lib.ListN.{length, get_or, drop, drop_of_length-le, length-drop}
+use lib.ListN.{take, length, get_or, drop, drop_of_length-le, length-drop}
 use lib.Seq.{drop-cons, get_or-drop}
 use borrow.Author.Tests.{leb-true, leb-false, ltb-true, ltb-false}
 use Rattle.std.specs.List.{prefix_len}
+use Rattle.journal.proofs.Stores.{take_rest}
 use Rattle.lists.proofs.Loops.{clash, two}
 use Rattle.text.specs.inner.Words.{breaks, commented, gap, word_length, next_word}
 use Rattle.text.specs.declared.word.Word.{Word}
@@ -35,6 +36,16 @@ gap-end text at i m c h k l e = ⊎_elim (λ t. inside (leb-true _ _ t)) (λ t. 
 run_past : (text : List ℕ) (i : ℕ) → length text ≤ i → i + word_length (drop i text) ≡ i
 unfolding word_length
 run_past text i h = rw (drop_of_length-le text h, add-zero)
+
+-- what is left of a text from a place on, where the place is taken back to the text's end
+pub rest-drop : (text : List ℕ) (at n : ℕ) → n ≡ min at (length text) → take (length text - n) (drop n text) ≡ drop at text
+rest-drop text at n e = ⊎_elim (λ t. inside (leb-true _ _ t)) (λ t. past (leb-false _ _ t)) (two (leb at (length text)))
+  where
+    inside : at ≤ length text → take (length text - n) (drop n text) ≡ drop at text
+    inside h = let i : n ≡ at = omega arith in take_rest n text ∙ ap (λ k. drop k text) i
+
+    past : length text < at → take (length text - n) (drop n text) ≡ drop at text
+    past h = let i : length text ≤ n = omega arith in let j : length text ≤ at = omega arith in take_rest n text ∙ drop_of_length-le text i ∙ sym (drop_of_length-le text j)
 
 -- a word goes as far as no byte ends it
 pub run-taken : (l : List ℕ) → prefix_len (λ b. not (breaks b)) l ≡ word_length l

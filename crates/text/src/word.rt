@@ -43,7 +43,8 @@ fn skip_gap(text: &[u8], at: usize) -> usize
 fn skip_word(text: &[u8], at: usize) -> usize
     ensures { result ≡ at + word_length (drop at text.now) }
 {
-    at + text.iter().skip(at).take_while(|b| !breaks(**b)).count()
+    let rest = &text[at.min(text.len())..];
+    at + rest.iter().take_while(|b| !breaks(**b)).count()
 }
 
 // The next word from a place on.
