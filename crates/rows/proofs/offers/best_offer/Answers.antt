@@ -11,4 +11,4 @@ pub overflow_cast-j : goal.overflow_cast-j
 overflow_cast-j c = omega (arith, c.args.o.now.offerable.predecessor.stands.many, size-narrow c.args.o.now.words.now)
 
 pub loop-j-preserved : goal.loop-j-preserved
-loop-j-preserved c = offers-turn _ c.loop-j.j c.loop-j.invariant c.offer_of.ensures c.better_offer-best.ensures
+loop-j-preserved c = offers-turn _ c.loop-j.j c.loop-j.invariant c.offer.ensures c.better_offer-best.ensures

@@ -1,6 +1,6 @@
--- `rows::offer::floored_log` meets its contract.
+-- `rows::offers::floored_log` meets its contract.
 use lib.Ieee.{of_bits}
-use Rattle.rows.proofs.offer.floored_log.Goals as goal
+use Rattle.rows.proofs.offers.floored_log.Goals as goal
 
 pub returns-then-raw_log : goal.returns-then-raw_log
 unfolding of_bits
