@@ -8,7 +8,7 @@ use Rattle.binary64.specs.Values.{pzero}
 use Rattle.journal.specs.Record.{read_row}
 use Rattle.journal.specs.inner.Fix.{fix_in}
 use Rattle.journal.proofs.Gathered.{count-in}
-use Rattle.journal.proofs.Lists.{default-inside}
+use Rattle.std.proofs.lemmas.List.{get_or_default}
 use Rattle.transition.specs.Step.{step_on}
 use Rattle.transition.specs.inner.Track.{track_in}
 use Rattle.rows.specs.Row.{floored, sum_through, offer}
@@ -33,7 +33,7 @@ by_table c =
     let many = count-in _ o.entries16 in
     let inside : j * n + i < length o.distances.now = pair_inside n o.before _ i j c.requires.0 c.requires.1 (rw many at o.offerable.distances) in
     rw (← offer-same o.track.now o.settings (fix_in o.fix o.distances.now) (read_row o.words.now) o.before o.found.now o.offerable.held many i j (omega (arith, many)) c.requires.1, many)
-    (rw (c.compute_log_transition.ensures, c.candidate_of-a.ensures, c.own_candidate-b.ensures, c.routes_at-routes.ensures, c.score_of-previous.ensures, default-inside _ _ nan pzero inside))
+    (rw (c.compute_log_transition.ensures, c.candidate_of-a.ensures, c.own_candidate-b.ensures, c.routes_at-routes.ensures, c.score_of-previous.ensures, get_or_default _ _ nan pzero inside))
 
 pub returns-in_err-step : goal.returns-in_err-step
 returns-in_err-step c = c.from_residual.ensures ∙ rw (by_table (goal.at.returns-in_err-step c).After-compute_log_transition, c.in_err-step.was)
