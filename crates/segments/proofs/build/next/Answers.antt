@@ -1,6 +1,6 @@
 -- `segments::build::next` meets its contract.
 use Rattle.std.proofs.Common.{arith, refl}
-use Rattle.segments.proofs.BuildTurns.{some-left, group-reached, group-turn, bridge-few, bridge-turn}
+use Rattle.segments.proofs.BuildTurns.{some-left, group-reached, group-turn, bridge-turn}
 use Rattle.segments.proofs.build.next.Goals as goal
 
 pub overflow_sub-b : goal.overflow_sub-b
