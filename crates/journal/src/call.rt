@@ -55,7 +55,8 @@ pub fn strike(journal: &mut [u32], n: u32) -> Result<(), Refusal>
 pub fn predecessor(journal: &[u32]) -> Result<Option<PrecedingRow>, Refusal>
     ensures { result ≡ preceding journal.now }
 {
-    match read_journal(journal)?.latest {
+    let found = read_journal(journal)?;
+    match found.latest {
         None => Ok(None),
         Some(latest) => Ok(Some(PrecedingRow {
             row: latest.row as u32,
