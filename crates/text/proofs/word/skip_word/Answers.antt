@@ -14,7 +14,7 @@ returns c =
     let text = c.args.text.now in
     let rest = take (length text - c.min.result) (drop c.min.result text) in
     let n =
-        count_from_yields_List c.take_while.result _ c.count.ensures.ran
-        (YieldsList-from_take_while _ (λ b. not (breaks b)) (YieldsList-from_slice rest cc) c.take_while.ensures.closure c.take_while.ensures.done (λ x b q k. search (rules, tests)))
-        ∙ length-prefix_len (λ b. not (breaks b)) rest in
+    count_from_yields_List c.take_while.result _ c.count.ensures.ran
+    (YieldsList-from_take_while _ (λ b. not (breaks b)) (YieldsList-from_slice rest cc) c.take_while.ensures.closure c.take_while.ensures.done (λ x b q k. search (rules, tests)))
+    ∙ length-prefix_len (λ b. not (breaks b)) rest in
     ap (λ n. c.args.at + n) (n ∙ ap (prefix_len (λ b. not (breaks b))) (rest-drop text _ _ c.min.ensures) ∙ run-taken (drop c.args.at text))
