@@ -12,7 +12,7 @@ use Rattle.journal.specs.Row.{Row, row_size, scores, predecessor}
 use Rattle.journal.specs.Record.{predecessor_word, used_word, record_of, read_row}
 use Rattle.journal.specs.Journal.{words, predecessor_place, record_on, read_journal}
 use Rattle.journal.specs.WellFormed.{Obey, Names}
-use Rattle.journal.specs.inner.Check.{predecessor_at, latest_of, place_of}
+use Rattle.journal.specs.inner.Check.{predecessor_standing, latest_of, place_of}
 use Rattle.journal.specs.declared.check.Predecessor.{Predecessor}
 use Rattle.std.specs.Prelude.{Option as RustOption, Some, None}
 use Rattle.std.proofs.lemmas.Option.{same_Some}
@@ -66,13 +66,13 @@ pub record Latest (rs : List Row) (place row candidates : ℕ) : Type 0 where
   pub numbered : row ≡ length earlier
   pub many : candidates ≡ row_size latest
 
-pub latest-some : (rs : List Row) (place row candidates : ℕ) → latest_of rs ≡ predecessor_at place row candidates → Latest rs place row candidates
+pub latest-some : (rs : List Row) (place row candidates : ℕ) → latest_of rs ≡ predecessor_standing place row candidates → Latest rs place row candidates
 unfolding latest_of predecessor
 latest-some [] place row candidates e = let z : ◌≡◌ {A = ℕ} 0 1 = cc in absurd (omega arith)
 latest-some (r ∷ rs) place row candidates e = go (scores r) refl (latest-some rs place row candidates) e
   where
-    go : (b : Bool) → scores r ≡ b → (latest_of rs ≡ predecessor_at place row candidates → Latest rs place row candidates)
-        → cond b (predecessor_at (suc (length (words rs))) (length rs) (row_size r)) (latest_of rs) ≡ predecessor_at place row candidates → Latest (r ∷ rs) place row candidates
+    go : (b : Bool) → scores r ≡ b → (latest_of rs ≡ predecessor_standing place row candidates → Latest rs place row candidates)
+        → cond b (predecessor_standing (suc (length (words rs))) (length rs) (row_size r)) (latest_of rs) ≡ predecessor_standing place row candidates → Latest (r ∷ rs) place row candidates
     go true q ih k =
         let same = sym (same_Some _ _ k) in
         record {
@@ -94,7 +94,7 @@ unfolding latest_of predecessor
 latest-none [] e = refl
 latest-none (r ∷ rs) e = go (scores r) (latest-none rs) e
   where
-    go : (b : Bool) → (latest_of rs ≡ None → predecessor rs ≡ none) → cond b (predecessor_at (suc (length (words rs))) (length rs) (row_size r)) (latest_of rs) ≡ None → cond b (some r) (predecessor rs) ≡ none
+    go : (b : Bool) → (latest_of rs ≡ None → predecessor rs ≡ none) → cond b (predecessor_standing (suc (length (words rs))) (length rs) (row_size r)) (latest_of rs) ≡ None → cond b (some r) (predecessor rs) ≡ none
     go true ih k = let z : ◌≡◌ {A = ℕ} 0 1 = cc in absurd (omega arith)
     go false ih k = ih k
 

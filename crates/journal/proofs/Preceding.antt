@@ -10,7 +10,7 @@ use lib.ListN.{length, get_or}
 use Rattle.journal.specs.Row.{Row, row_size, scores, predecessor, predecessor_number}
 use Rattle.journal.specs.Journal.{words}
 use Rattle.journal.specs.Call.{preceding_of, preceding}
-use Rattle.journal.specs.inner.Check.{predecessor_at, latest_of, well_formed, survey}
+use Rattle.journal.specs.inner.Check.{predecessor_standing, latest_of, well_formed, survey}
 use Rattle.refusals.specs.declared.Refusal.{Refusal}
 use Rattle.journal.specs.declared.call.PrecedingRow.{PrecedingRow}
 use Rattle.journal.specs.declared.check.Predecessor.{Predecessor}
@@ -29,7 +29,7 @@ latest-told [] = refl
 latest-told (r ∷ rs) = go (scores r) (latest-told rs)
   where
     new : RustOption Predecessor
-    new = predecessor_at (suc (length (words rs))) (length rs) (row_size r)
+    new = predecessor_standing (suc (length (words rs))) (length rs) (row_size r)
 
     go : (b : Bool) → told (latest_of rs) ≡ preceding_of (predecessor_number rs) (predecessor rs)
         → told (cond b new (latest_of rs)) ≡ preceding_of (cond b (length rs) (predecessor_number rs)) (cond b (some r) (predecessor rs))
@@ -55,10 +55,10 @@ number_at (r ∷ rs) p other e = go (scores r) e (number_at rs p other)
         (omega (arith, v.0), rw next v.1)
 
 -- so the row that check 7 found is one of the rows
-latest-inside : (rs : List Row) (place row c : ℕ) → latest_of rs ≡ predecessor_at place row c → row < length rs
+latest-inside : (rs : List Row) (place row c : ℕ) → latest_of rs ≡ predecessor_standing place row c → row < length rs
 latest-inside rs place row c e = go (predecessor rs) refl (ap told (sym e) ∙ latest-told rs)
   where
-    go : (o : Option Row) → predecessor rs ≡ o → told (predecessor_at 0 row c) ≡ preceding_of (predecessor_number rs) o → row < length rs
+    go : (o : Option Row) → predecessor rs ≡ o → told (predecessor_standing 0 row c) ≡ preceding_of (predecessor_number rs) o → row < length rs
     go none q k = let z : ◌≡◌ {A = ℕ} 0 1 = cc in absurd (omega arith)
     go (some p) q k =
         let same : row ≡ predecessor_number rs = ap (λ (r : PrecedingRow). r.row) (same_Some _ _ k) in
@@ -74,7 +74,7 @@ module _ (s : List ℕ) (rows u : ℕ) (p : RustOption Predecessor) (m : ℕ) (e
   preceding-told q h = let r = survey-rows s rows u p m e in ap Ok (ap told (sym (r.latest ∙ h)) ∙ latest-told r.rows) ∙ rw r.reads
 
   -- at most 65,535 rows stand
-  pub row_fits : (place row c : ℕ) → p ≡ predecessor_at place row c → row < 65536
+  pub row_fits : (place row c : ℕ) → p ≡ predecessor_standing place row c → row < 65536
   row_fits place row c q =
       let r = survey-rows s rows u p m e in
       omega (arith, latest-inside r.rows place row c (r.latest ∙ q), (formed s r.rows r.reads).1)

@@ -18,7 +18,7 @@ use Rattle.journal.specs.Row.{Row, row_size, scores, predecessor, size_of, lates
 use Rattle.journal.specs.Ranges.{candidate_limit, row_limit}
 use Rattle.journal.specs.Record.{used_word, read_row}
 use Rattle.journal.specs.Journal.{words, predecessor_place, record_on, row_ok, record_ok, read_rows, used, used_words, read_journal}
-use Rattle.journal.specs.inner.Check.{well_read, whole_record, record_at, predecessor_at, latest_of, candidates_of, place_of, Followed, not_well_formed, survey_of, survey}
+use Rattle.journal.specs.inner.Check.{well_read, whole_record, record_at, predecessor_standing, latest_of, candidates_of, place_of, Followed, not_well_formed, survey_of, survey}
 use Rattle.journal.specs.declared.read.Record.{Record}
 use Rattle.journal.specs.declared.check.Predecessor.{Predecessor}
 use Rattle.journal.specs.declared.check.Survey.{Survey}
@@ -38,7 +38,7 @@ latest-both [] = (refl, refl)
 latest-both (r ∷ rs) = go (scores r) (latest-both rs)
   where
     new : RustOption Predecessor
-    new = predecessor_at (suc (length (words rs))) (length rs) (row_size r)
+    new = predecessor_standing (suc (length (words rs))) (length rs) (row_size r)
 
     go : (b : Bool) → (candidates_of (latest_of rs) ≡ size_of (predecessor rs)) × (place_of (latest_of rs) ≡ predecessor_place rs)
         → (candidates_of (cond b new (latest_of rs)) ≡ size_of (cond b (some r) (predecessor rs))) × (place_of (cond b new (latest_of rs)) ≡ cond b (suc (length (words rs))) (predecessor_place rs))
@@ -82,7 +82,7 @@ module _ (r : Row) (rs : List Row) where
       go true q = absurd (n (rw q))
       go false q = refl
 
-latest-new : (r : Row) (rs : List Row) → latest_of (r ∷ rs) ≡ cond (scores r) (predecessor_at (suc (length (words rs))) (length rs) (row_size r)) (latest_of rs)
+latest-new : (r : Row) (rs : List Row) → latest_of (r ∷ rs) ≡ cond (scores r) (predecessor_standing (suc (length (words rs))) (length rs) (row_size r)) (latest_of rs)
 unfolding latest_of
 latest-new r rs = refl
 
@@ -227,7 +227,7 @@ module _ (journal : List ℕ) (v : Survey) (w : Walked journal v) where
             let g = fits w.standing rest f.ok in
             (omega (arith, f.long, g.0), omega (arith, f.long, g.1, length-drop v.used journal))
 
-        pub walked-turn : {l : RustOption Predecessor} → l ≡ cond r.scores (predecessor_at v.used v.rows r.candidates) v.latest
+        pub walked-turn : {l : RustOption Predecessor} → l ≡ cond r.scores (predecessor_standing v.used v.rows r.candidates) v.latest
             → Walked journal (record { rows = v.rows + 1; used = v.used + r.length; latest = l; minute = r.minute })
         walked-turn p =
             let f = one_found in
@@ -248,7 +248,7 @@ module _ (journal : List ℕ) (v : Survey) (w : Walked journal v) where
             }
           where
             -- its candidates, or those of the predecessor before it
-            small : (b : Bool) → candidates_of (cond b (predecessor_at v.used v.rows r.candidates) v.latest) ≤ candidate_limit
+            small : (b : Bool) → candidates_of (cond b (predecessor_standing v.used v.rows r.candidates) v.latest) ≤ candidate_limit
             small true = omega (arith, one_found.many, few w.standing rest one_found.ok)
             small false = w.size
 
@@ -256,7 +256,7 @@ module _ (journal : List ℕ) (v : Survey) (w : Walked journal v) where
             longer row q = unfold words in omega (arith, length-append (words w.standing) (record_on w.standing row), w.placed)
 
             picked : (row : Row) → r.candidates ≡ row_size row → r.scores ≡ scores row
-                → cond (scores row) (predecessor_at (suc (length (words w.standing))) (length w.standing) (row_size row)) (latest_of w.standing) ≡ cond r.scores (predecessor_at v.used v.rows r.candidates) v.latest
+                → cond (scores row) (predecessor_standing (suc (length (words w.standing))) (length w.standing) (row_size row)) (latest_of w.standing) ≡ cond r.scores (predecessor_standing v.used v.rows r.candidates) v.latest
             picked row a b = rw (w.placed, w.counted, w.last, a, b)
 
   -- the end of the used words

@@ -24,11 +24,6 @@ unfolding every_below
 all-entries test d [] = refl
 all-entries test d (x ∷ xs) = rw (every_front (length xs) (λ k. test (get_or (x ∷ xs) k d)), all-entries test d xs)
 
-pub any-entries : {A : Type 0} (test : A → Bool) (d : A) (xs : List A) → list_any test xs ≡ any_below (length xs) (λ k. test (get_or xs k d))
-unfolding any_below
-any-entries test d [] = refl
-any-entries test d (x ∷ xs) = rw (any_front (length xs) (λ k. test (get_or (x ∷ xs) k d)), any-entries test d xs)
-
 -- of two lists of one length
 pub all-pairs : {A B : Type 0} (test : A → B → Bool) (d : A) (e : B) (xs : List A) (ys : List B) → length ys ≡ length xs →
     list_all (λ p. test p.0 p.1) (zip xs ys) ≡ every_below (length xs) (λ k. test (get_or xs k d) (get_or ys k e))

@@ -60,14 +60,6 @@ every-turn k test h e = rw (add-one, h, e)
 pub every-done : (k n : ℕ) (test : ℕ → Bool) → every_below k test ≡ true → k ≡ n → true ≡ every_below n test
 every-done k n test h e = rw (← e, h)
 
--- an answer that is kept from turn to turn, with no end before the last one
-pub every-kept : (k : ℕ) (test : ℕ → Bool) {was is : Bool} → was ≡ every_below k test → is ≡ was && test k → is ≡ every_below (k + 1) test
-unfolding every_below
-every-kept k test h e = rw (add-one, ← h) e
-
-pub every-all-kept : (k n : ℕ) (test : ℕ → Bool) {is : Bool} → is ≡ every_below k test → k ≡ n → is ≡ every_below n test
-every-all-kept k n test h e = rw (← e) h
-
 pub every-at : (n : ℕ) (test : ℕ → Bool) → every_below n test ≡ true → (k : ℕ) → k < n → test k ≡ true
 unfolding every_below
 every-at zero test h k l = absurd (not-suc-le-zero l)
@@ -93,9 +85,6 @@ any_none test = refl
 pub any-turn : (k : ℕ) (test : ℕ → Bool) → any_below k test ≡ false → test k ≡ false → any_below (k + 1) test ≡ false
 unfolding any_below
 any-turn k test h e = rw (add-one, h, e)
-
-pub any-done : (k n : ℕ) (test : ℕ → Bool) → any_below k test ≡ false → k ≡ n → false ≡ any_below n test
-any-done k n test h e = rw (← e, h)
 
 -- a number below n that passes
 pub any-stop : (k n : ℕ) (test : ℕ → Bool) → k < n → test k ≡ true → true ≡ any_below n test

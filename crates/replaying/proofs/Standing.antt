@@ -19,7 +19,7 @@ use Rattle.journal.specs.Ranges.{candidate_limit}
 use Rattle.journal.specs.Record.{predecessor_word, first_cell, record_length, record_of, read_row}
 use Rattle.journal.specs.Journal.{words, predecessor_place, record_on}
 use Rattle.journal.specs.WellFormed.{Obey}
-use Rattle.journal.specs.inner.Check.{predecessor_at, latest_of, place_of}
+use Rattle.journal.specs.inner.Check.{predecessor_standing, latest_of, place_of}
 use Rattle.journal.specs.inner.Rows.{rows_before}
 use Rattle.journal.specs.declared.check.Predecessor.{Predecessor}
 use Rattle.journal.specs.declared.record.Candidate.{Candidate}
@@ -152,7 +152,7 @@ module _ {n : ℕ} {rs : List Row} {s : List ℕ} {end : ℕ} (h : Replayable n 
       place-within = omega (arith, place_inside qs, st.placed, inside)
 
       -- its record, where there is one
-      module _ {place row candidates : ℕ} (e : latest_of qs ≡ predecessor_at place row candidates) where
+      module _ {place row candidates : ℕ} (e : latest_of qs ≡ predecessor_standing place row candidates) where
         latest : Latest qs place row candidates
         latest = latest-some qs place row candidates e
 

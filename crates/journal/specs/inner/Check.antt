@@ -15,8 +15,8 @@ use Rattle.refusals.specs.declared.Refusal.{Refusal}
 -- ---- the predecessor of a further row
 
 -- where the predecessor's record starts, its number and how many candidates it has
-abbrev pub predecessor_at : ℕ → ℕ → ℕ → RustOption Predecessor
-predecessor_at place row candidates = Some (record { place = place; row = row; candidates = candidates })
+abbrev pub predecessor_standing : ℕ → ℕ → ℕ → RustOption Predecessor
+predecessor_standing place row candidates = Some (record { place = place; row = row; candidates = candidates })
 
 -- how many candidates it has, 0 without one
 abbrev pub candidates_of : RustOption Predecessor → ℕ
@@ -71,7 +71,7 @@ record_at v ws =
 -- the latest of these rows that scores
 unfoldable pub latest_of : List Row → RustOption Predecessor
 latest_of [] = None
-latest_of (r ∷ rs) = cond (scores r) (predecessor_at (suc (length (words rs))) (length rs) (row_size r)) (latest_of rs)
+latest_of (r ∷ rs) = cond (scores r) (predecessor_standing (suc (length (words rs))) (length rs) (row_size r)) (latest_of rs)
 
 -- the number of rows, of used words, the predecessor of a further row and the latest minute
 abbrev pub well_formed : ℕ → ℕ → RustOption Predecessor → ℕ → Result Survey Refusal

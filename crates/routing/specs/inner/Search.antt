@@ -1,7 +1,7 @@
 -- What bounds the numbers of a search.
 use Rattle.std.specs.Prelude.{ℕ, zero, suc, ◌+◌, ◌<◌, ◌≤◌, ◌≡◌, Bool, false, cond, List, Option, Some, None, length, get_or}
 use Rattle.std.specs.Float.{nan, inf}
-use Rattle.routing.specs.Search.{Search}
+use Rattle.routing.specs.Search.{Tables, Search, search_of, no_costs, no_preds, no_marks}
 
 -- a pick is a state below n
 abbrev pub Within : ℕ → Option ℕ → Type 0
@@ -18,3 +18,9 @@ pub record ReachedBelow (n : ℕ) (q : Search) : Type 0 where
   pub few : n ≤ 4096
   pub marks : 4096 ≤ length q.marks
   pub rest : (i : ℕ) → n ≤ i → i < 4096 → get_or q.tables.costs i nan ≡ inf false
+
+abbrev pub unreached : Search
+unreached = search_of no_costs no_preds no_marks
+
+abbrev pub with_tables : Tables → Search → Search
+with_tables t q = record { tables = t; marks = q.marks }
