@@ -7,6 +7,7 @@ ghost use Rattle.routing.specs.Search.{searched};
 ghost use Rattle.routing.specs.Route.{steps_back, states_back, route_fitted, states_of_end, states_stored};
 ghost use Rattle.routing.specs.inner.Goals.{end_answer};
 
+use crate::blocks::NO_LEADER;
 use crate::route::ListedRoute;
 use crate::search::Search;
 use network::compile::CompiledGraph;
@@ -65,7 +66,8 @@ fn list_back(
     Ok(Some(ListedRoute { cost, states: n }))
 }
 
-// The states of the cheapest route between two nodes.
+// The states of the cheapest route between two nodes. Never inlined: the search takes stack only while it runs.
+#[inline(never)]
 pub fn states_between(
     graph: &CompiledGraph<'_>,
     start: usize,
@@ -78,7 +80,12 @@ pub fn states_between(
     ensures states_after { let g = graph_in graph.now in
         states.new ≡ states_stored result (states_of_end (2 * start) (4 * element_count g) (searched g start goal)) states.old }
 {
-    let mut search = Search::new();
+    let mut search = Search {
+        costs: [0.0; 4096],
+        preds: [0; 4096],
+        marks: [true; 4096],
+        leaders: [NO_LEADER; 272],
+    };
     search.begin(start);
     match search.find(graph, goal) {
         Some(s) => list_back(

@@ -7,6 +7,10 @@ use lib.Seq.{length-take-le}
 use lib.Ieee.{Float, of_bits}
 use Rattle.network.specs.inner.Compiled.{graph_in}
 use Rattle.routing.specs.Route.{cost_of_end}
+use Rattle.routing.specs.Search.{no_preds}
+use Rattle.routing.specs.inner.Search.{blank_costs, blank_marks}
+use Rattle.routing.specs.inner.Blocks.{no_leaders}
+use Rattle.routing.proofs.Leaders.{led-blank}
 use Rattle.routing.proofs.Noting.{filled-front, filled-rest, costs-same}
 use Rattle.routing.proofs.Reached.{reached-begun}
 use Rattle.routing.proofs.Routes.{is-searched, node-route}
@@ -15,6 +19,14 @@ use Rattle.routing.proofs.goals.distances_from.Goals as goal
 filled : (before : List Float) {n : ℕ} {x : Float} {after : List Float} → n ≤ length before →
     (((y : Float) → y ≡ x → y ≡ x) → after ≡ replicate (length (take n before)) x) → after ≡ replicate n x
 filled before {n} {x} room h = h (λ y e. e) ∙ ap (λ (k : ℕ). replicate k x) (length-take-le n before room)
+
+pub invariant_of-search : goal.invariant_of-search
+unfolding blank_costs blank_marks no_leaders of_bits
+invariant_of-search c = led-blank
+
+pub begin-requires-clause-blank : goal.begin-requires-clause-blank
+unfolding blank_costs no_preds blank_marks of_bits
+begin-requires-clause-blank c = refl
 
 pub serve_goals-requires-clause-unfound : goal.serve_goals-requires-clause-unfound
 unfolding of_bits
