@@ -12,7 +12,7 @@ ghost use Rattle.replaying.specs.inner.Comparing.{Replayable, StandsAt, Stretch,
 use crate::row::row_same;
 use journal::lengths::record_length;
 use journal::read::minute_of;
-use network::compile::compile_network;
+use network::compile::{CompiledGraph, compile_network};
 use network::lent::Network;
 use rows::record::{before_count, candidate_count, predecessor_place};
 use transition::step::Settings;
@@ -78,7 +78,12 @@ impl Standing<'_> {
     {
         let net = self.net;
         let minute = minute_of(&self.journal[start.at..]);
-        let graph = compile_network(net, minute);
+        let mut graph = CompiledGraph {
+            lengths: net.lengths,
+            heads: [0; 2048],
+            links: [0; 8192],
+        };
+        compile_network(net, minute, &mut graph);
         let track = Track {
             graph: &graph,
             headings: net.headings,

@@ -8,7 +8,7 @@ use crate::fill::TwoRows;
 use crate::find::check_row;
 use journal::read::minute_of;
 use journal::record::distance_count;
-use network::compile::compile_network;
+use network::compile::{CompiledGraph, compile_network};
 use network::lent::Network;
 use refusals::Refusal;
 use rows::record::candidate_count;
@@ -62,7 +62,12 @@ impl RowSteps {
             let r = read_row own.now in
             (room : ℕ) → row_listed result room ≡ steps_fitted (steps_between (transition net.now settings r.minute) predecessor_row p row r) room }
     {
-        let graph = compile_network(net, minute_of(own));
+        let mut graph = CompiledGraph {
+            lengths: net.lengths,
+            heads: [0; 2048],
+            links: [0; 8192],
+        };
+        compile_network(net, minute_of(own), &mut graph);
         let count = candidate_count(previous);
         let rows = TwoRows {
             track: Track {

@@ -10,7 +10,7 @@ returns-then-are_joined c =
     c.no_bridges.ensures ∙ ap bridges_of (sym (joined-none _ c.requires.sound_graph _ _ told))
 
 pub bridges_between-requires : goal.bridges_between-requires
-bridges_between-requires c = rw c.compile_network-graph.ensures.value c.requires.sound_graph
+bridges_between-requires c = rw c.compile_network.ensures.value c.requires.sound_graph
 
 pub returns : goal.returns
-returns c = rw c.compile_network-graph.ensures.value at c.bridges_between.ensures
+returns c = rw c.compile_network.ensures.value at c.bridges_between.ensures

@@ -10,16 +10,16 @@ returns-in_err-check_network c =
     let p = err_from_is_err_and c.from_residual.result c.from_residual.ensures.1 in
     rw (p.1, p.2) (distance-refused _ _ _ _ _ _ c.check_network.ensures _ c.in_err-check_network.was)
 
-pub compile_network-graph-requires-clause-relations_fit : goal.compile_network-graph-requires-clause-relations_fit
-compile_network-graph-requires-clause-relations_fit c =
+pub compile_network-requires-clause-relations_fit : goal.compile_network-requires-clause-relations_fit
+compile_network-requires-clause-relations_fit c =
     let accepted = sym c.check_network.ensures ∙ c.in_ok-check_network.was in
     (accepted-relations _ accepted, accepted-windows _ accepted)
 
-pub compile_network-graph-requires-clause-lengths_bound : goal.compile_network-graph-requires-clause-lengths_bound
-compile_network-graph-requires-clause-lengths_bound c = (accepted-counts _ (sym c.check_network.ensures ∙ c.in_ok-check_network.was)).elements
+pub compile_network-requires-clause-lengths_bound : goal.compile_network-requires-clause-lengths_bound
+compile_network-requires-clause-lengths_bound c = (accepted-counts _ (sym c.check_network.ensures ∙ c.in_ok-check_network.was)).elements
 
 pub route_cost-requires : goal.route_cost-requires
-route_cost-requires c = rw c.compile_network-graph.ensures.value (accepted-sound _ _ (sym c.check_network.ensures ∙ c.in_ok-check_network.was))
+route_cost-requires c = rw c.compile_network.ensures.value (accepted-sound _ _ (sym c.check_network.ensures ∙ c.in_ok-check_network.was))
 
 pub returns : goal.returns
-returns c = distance-accepted _ _ _ _ _ _ c.check_network.ensures c.in_ok-check_network.was c.compile_network-graph.ensures.value c.route_cost.ensures
+returns c = distance-accepted _ _ _ _ _ _ c.check_network.ensures c.in_ok-check_network.was c.compile_network.ensures.value c.route_cost.ensures

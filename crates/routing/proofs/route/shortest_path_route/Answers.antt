@@ -17,20 +17,20 @@ returns-in_err-check_network-clause-states_after c =
     let p = err_from_is_err_and c.from_residual.result c.from_residual.ensures.1 in
     rw p.1
 
-pub compile_network-graph-requires-clause-relations_fit : goal.compile_network-graph-requires-clause-relations_fit
-compile_network-graph-requires-clause-relations_fit c =
+pub compile_network-requires-clause-relations_fit : goal.compile_network-requires-clause-relations_fit
+compile_network-requires-clause-relations_fit c =
     let accepted = sym c.check_network.ensures ∙ c.in_ok-check_network.was in
     (accepted-relations _ accepted, accepted-windows _ accepted)
 
-pub compile_network-graph-requires-clause-lengths_bound : goal.compile_network-graph-requires-clause-lengths_bound
-compile_network-graph-requires-clause-lengths_bound c = (accepted-counts _ (sym c.check_network.ensures ∙ c.in_ok-check_network.was)).elements
+pub compile_network-requires-clause-lengths_bound : goal.compile_network-requires-clause-lengths_bound
+compile_network-requires-clause-lengths_bound c = (accepted-counts _ (sym c.check_network.ensures ∙ c.in_ok-check_network.was)).elements
 
 pub route_states-requires : goal.route_states-requires
-route_states-requires c = rw c.compile_network-graph.ensures.value (accepted-sound _ _ (sym c.check_network.ensures ∙ c.in_ok-check_network.was))
+route_states-requires c = rw c.compile_network.ensures.value (accepted-sound _ _ (sym c.check_network.ensures ∙ c.in_ok-check_network.was))
 
 pub returns-clause-value : goal.returns-clause-value
 returns-clause-value c =
-    listing-accepted _ _ _ _ _ _ c.check_network.ensures _ c.in_ok-check_network.was c.compile_network-graph.ensures.value c.route_states.ensures.value
+    listing-accepted _ _ _ _ _ _ c.check_network.ensures _ c.in_ok-check_network.was c.compile_network.ensures.value c.route_states.ensures.value
 
 pub returns-clause-states_after : goal.returns-clause-states_after
-returns-clause-states_after c = stored-graph c.compile_network-graph.ensures.value _ _ _ _ _ _ c.route_states.ensures.states_after
+returns-clause-states_after c = stored-graph c.compile_network.ensures.value _ _ _ _ _ _ c.route_states.ensures.states_after

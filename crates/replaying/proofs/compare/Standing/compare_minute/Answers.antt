@@ -23,15 +23,15 @@ slice_bounds-minute_of-start c = omega (arith, at-inside c.args.self.now.replaya
 pub minute_of-minute-requires : goal.minute_of-minute-requires
 minute_of-minute-requires c = own-head c.args.self.now.replayable c.requires.0.stands c.requires.1
 
-pub compile_network-graph-requires : goal.compile_network-graph-requires
-compile_network-graph-requires c = record { relations_fit = accepted-fits _ c.args.self.now.accepted; lengths_bound = (accepted-counts _ c.args.self.now.accepted).elements }
+pub compile_network-requires : goal.compile_network-requires
+compile_network-requires c = record { relations_fit = accepted-fits _ c.args.self.now.accepted; lengths_bound = (accepted-counts _ c.args.self.now.accepted).elements }
 
 pub compare_stretch-requires : goal.compare_stretch-requires
 compare_stretch-requires c =
     let at = c.requires in
     record {
-      track_fits = accepted-track _ _ c.args.self.now.accepted (compiled-track _ c.net.view_is c.compile_network-graph.ensures.value);
-      replayable = rw c.compile_network-graph.ensures.lengths c.args.self.now.replayable;
+      track_fits = accepted-track _ _ c.args.self.now.accepted (compiled-track _ c.net.view_is c.compile_network.ensures.value);
+      replayable = rw c.compile_network.ensures.lengths c.args.self.now.replayable;
       stands_at = (at.0.stands, at.1, sym (own-minute c.args.self.now.replayable at.0.stands at.1 c.minute_of-minute.ensures));
     }
 
@@ -42,5 +42,5 @@ returns c =
     let so_far = c.requires.0.so_far in
     MatchResult-weaker c.compare_stretch.result
     (subst (λ (t : Track). MatchResult c.compare_stretch.result (Stretch (step_on t c.args.self.now.settings) minute rs c.args.start.row) (Differing (step_on t c.args.self.now.settings) minute rs c.args.start.row))
-    (compiled-track _ c.net.view_is c.compile_network-graph.ensures.value) c.compare_stretch.ensures)
+    (compiled-track _ c.net.view_is c.compile_network.ensures.value) c.compare_stretch.ensures)
     (stretch-compared _ _ minute _ so_far) (differing-first _ _ minute _ so_far)

@@ -1,8 +1,8 @@
--- `network::compile::compile_into` meets its contract.
+-- `network::compile::compile_network` meets its contract.
 use Rattle.std.proofs.Common.{rules, length, ◌≡◌}
 use mathlib.Core.Logic.{inl, inr}
 use Rattle.network.proofs.Compiling.{added_none, added-all, link-fits, added-more}
-use Rattle.network.proofs.compile.compile_into.Goals as goal
+use Rattle.network.proofs.compile.compile_network.Goals as goal
 
 pub loop-k-init : goal.loop-k-init
 loop-k-init c =
