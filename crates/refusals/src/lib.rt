@@ -26,6 +26,7 @@ pub enum Refusal {
 }
 
 impl Refusal {
+    // A method and no From: a call of it says what it gives.
     pub fn number(self) -> u32
         ensures { result ≡ refusal_number self }
     {

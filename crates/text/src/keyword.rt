@@ -26,6 +26,7 @@ pub enum Keyword {
     Minute,
     Load,
     Replay,
+    // any other word: the caller judges it
     Unknown,
 }
 
@@ -50,6 +51,7 @@ pub enum Slice {
     Distances,
     Answer,
     Decisions,
+    // any other word: the caller judges it
     Unknown,
 }
 
