@@ -36,7 +36,6 @@ impl Session {
     ) -> Option<Result<(), Refusal>> {
         let n = words.count(20);
         let m = words.count(400);
-        // Apart, as the call takes them.
         let mut elements = [0; CANDIDATES];
         let mut intrinsics = [0.0; CANDIDATES];
         let mut near = [0; CANDIDATES];

@@ -15,7 +15,6 @@ pub fn kept<T: Copy + PartialEq>(buffer: &[T], n: usize, fill: T) -> bool {
     true
 }
 
-// The two fills, each named once.
 pub fn words_kept(buffer: &[u32], n: usize) -> bool {
     kept(buffer, n, FILL)
 }

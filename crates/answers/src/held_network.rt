@@ -26,7 +26,6 @@ pub const MOST_WINDOWS: usize = 6;
 pub struct HeldNetwork {
     pub elements: usize,
     pub relations: usize,
-    // An array for each list, since each is lent as a slice.
     lengths: [f64; MOST_ELEMENTS],
     headings: [f64; HEADINGS],
     flags: [u32; MOST_ELEMENTS],

@@ -11,7 +11,6 @@ use text::window::keep_rest;
 // of it is read from.
 #[derive(Drop)]
 pub struct Input<'a> {
-    // A buffer by hand: nothing is allocated, and std's has to allocate.
     text: &'a mut [u8],
     pub cursor: Cursor,
     filled: usize,

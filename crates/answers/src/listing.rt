@@ -10,7 +10,6 @@ use text::keyword::Slice;
 // The buffers of a listing.
 #[derive(Drop)]
 struct Steps {
-    // Apart, as the call takes them.
     predecessor_rows: [u32; PAIRS],
     predecessor_candidates: [u32; PAIRS],
     rows: [u32; PAIRS],
@@ -21,7 +20,6 @@ struct Steps {
 impl Steps {
     // The first n steps, one a line.
     fn print(&self, n: usize, out: &mut Output) {
-        // By index: five buffers side by side.
         for k in 0..n.min(PAIRS) {
             out.bytes(b"step");
             out.number(self.predecessor_rows[k]);

@@ -14,7 +14,6 @@ const WORD: usize = 64;
 // no other.
 #[derive(Drop)]
 pub struct Output {
-    // A buffer by hand: nothing is allocated, and std's has to allocate.
     bytes: [u8; OUTPUT_BYTES],
     at: usize,
     stdout: Stdout,

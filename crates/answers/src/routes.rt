@@ -33,7 +33,6 @@ fn read_side(words: &mut Words<'_>) -> Side {
 }
 
 // A side by its number: 2 times element plus side.
-// A function and no From: `Side` is another crate's.
 fn side_of(node: u32) -> Side {
     Side {
         element: node / 2,

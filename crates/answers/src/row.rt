@@ -12,7 +12,6 @@ use text::list::first;
 // The buffers of a row.
 #[derive(Drop)]
 struct Row {
-    // Apart, as the call takes them.
     elements: [u32; CANDIDATES],
     intrinsics: [f64; CANDIDATES],
     near: [u32; CANDIDATES],
@@ -25,7 +24,6 @@ struct Row {
 impl Row {
     // The first n candidates and m distances, one a line.
     fn print(&self, n: usize, m: usize, out: &mut Output) {
-        // By index: six buffers side by side.
         for k in 0..n.min(CANDIDATES) {
             out.bytes(b"candidate");
             out.number(self.elements[k]);

@@ -12,7 +12,6 @@ pub fn infinity() -> f64
     f64::INFINITY
 }
 
-// The constant, with what contracts call it.
 pub fn minus_infinity() -> f64
     ensures { result ≡ inf true }
 {

@@ -7,7 +7,6 @@ use text::keyword::Slice;
 
 // Whether every segment holds the fill.
 fn is_filled(segments: &[Segment]) -> bool {
-    // A loop and not `all`, as in `kept` of `answers`.
     for segment in segments {
         if !same_segment(*segment, FILL_SEGMENT) {
             return false;

@@ -17,7 +17,6 @@ const MOST_WORDS: u32 = 700000;
 #[derive(Drop)]
 pub struct Cases<'a> {
     pub session: Session,
-    // The first `words` of it: memory of a fixed size.
     pub journal: &'a mut [u32],
     pub words: usize,
     pub list: List,
@@ -110,7 +109,6 @@ impl Cases<'_> {
 
     // Every line up to the input's end, a word that cannot be read, or a read or write that fails.
     fn answer_all(&mut self, input: &mut Input<'_>) -> io::Result<()> {
-        // So many turns at most: a loop has to end, and how many lines come is not known.
         for _ in 0..u64::MAX {
             let Some(keyword) = input.next_line()? else {
                 break;

@@ -17,7 +17,6 @@ const DECISIONS: usize = 24576;
 
 // The text's next n segments, with zeros behind them.
 fn take_list(words: &mut Words<'_>, n: u32) -> List {
-    // Apart, as `text` reads them: it does not know segments.
     let mut elements = [0; SEGMENTS];
     let mut starts = [0.0; SEGMENTS];
     let mut ends = [0.0; SEGMENTS];
@@ -35,7 +34,6 @@ fn take_list(words: &mut Words<'_>, n: u32) -> List {
     );
     let mut list = List::empty();
     list.len = SEGMENTS.min(n as usize);
-    // By index: five arrays side by side.
     for k in 0..list.len {
         list.segments[k] = Segment {
             element: elements[k],
@@ -50,7 +48,6 @@ fn take_list(words: &mut Words<'_>, n: u32) -> List {
 
 // Whether the entries past the segments that are left are zero, or hold what they held where they were not lent: n were.
 fn is_kept(before: &Segments, after: &Segments, n: usize, left: usize) -> bool {
-    // By index, since the number of an entry tells what it holds; and no `all`, as in `kept` of `answers`.
     for k in left..SEGMENTS {
         let kept = if k < n { zero_segment() } else { before[k] };
         if !same_segment(after[k], kept) {

@@ -22,7 +22,6 @@ pub const FILL_SEGMENT: Segment = Segment {
 // Segments, of which the first ones are the list.
 #[derive(Clone, Copy)]
 pub struct List {
-    // Memory of a fixed size.
     pub segments: Segments,
     pub len: usize,
 }

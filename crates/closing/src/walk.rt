@@ -10,7 +10,6 @@ use rows::record::{parent_of, predecessor_place};
 // 31 for none; and the number of pairs found so far.
 #[derive(Clone, Copy)]
 pub struct Back {
-    // `Reached` is asked by contracts and is no ghost field: building keeps a walk of zeros where there is no path.
     pub rows: usize,
     pub end: usize,
     pub latest: usize,

@@ -28,7 +28,6 @@ fn perform(keyword: Keyword, words: &mut Words<'_>, session: &mut Session, journ
 
 // Every line up to the input's end or a word that cannot be read, then the used words.
 fn drive(input: &mut Input<'_>, session: &mut Session, journal: &mut [u32]) -> io::Result<()> {
-    // So many turns at most: a loop has to end, and how many lines come is not known.
     for _ in 0..u64::MAX {
         let Some(keyword) = input.next_line()? else {
             break;

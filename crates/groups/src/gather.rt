@@ -12,7 +12,6 @@ use rows::previous::{NO_PARENT, candidate_of};
 #[derive(Clone, Copy)]
 pub struct Gathering {
     pub group: Option<NetelementGroup>,
-    // A flag beside the group: one that has ended is still there to be answered.
     pub ended: bool,
     pub back: Back,
 }

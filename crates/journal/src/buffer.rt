@@ -12,7 +12,6 @@ pub fn copy_fields(words: &[u32], n: usize, unit: u32, limit: u32, buffer: &mut 
     requires { FieldsStand words.now n unit limit buffer.old }
     ensures { buffer.new ≡ entries_stored n (λ k. get_or words.now (first_cell + 7 * k) 0 / unit % limit) buffer.old }
 {
-    // By index: every seventh word is read.
     for k in 0..n {
         buffer[k] = words[FIRST_CELL + 7 * k] / unit % limit;
     }
@@ -23,7 +22,6 @@ pub fn copy_floats(words: &[u32], place: usize, apart: usize, n: usize, buffer: 
     requires { FloatsStand words.now place apart n buffer.old }
     ensures { buffer.new ≡ entries_stored n (λ k. float_at words.now (place + apart * k)) buffer.old }
 {
-    // By index: a float is two words of many.
     for k in 0..n {
         buffer[k] = float_at(words, place + apart * k);
     }

@@ -25,7 +25,6 @@ pub struct Survey {
 }
 
 // How many candidates it has, 0 without one.
-// A number and no Option: a record counts its predecessor's candidates so.
 pub fn candidates_of(latest: Option<Predecessor>) -> usize
     ensures { result ≡ candidates_of latest }
 {
@@ -33,7 +32,6 @@ pub fn candidates_of(latest: Option<Predecessor>) -> usize
 }
 
 // Where its record starts; the first word without one.
-// A number and no Option: a record names its predecessor so.
 pub fn place_of(latest: Option<Predecessor>) -> usize
     ensures { result ≡ place_of latest }
 {

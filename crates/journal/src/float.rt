@@ -8,7 +8,6 @@ ghost use Rattle.journal.specs.Record.{float_words, float_at};
 
 use std::num::{f64_from_bits_with_nan, f64_to_bits_with_nan};
 
-// The method under the definitions' name, which contracts cite.
 pub fn is_finite(x: f64) -> bool
     ensures { result ≡ finite x }
 {
@@ -16,7 +15,6 @@ pub fn is_finite(x: f64) -> bool
 }
 
 // The bits of x, one pattern for every NaN.
-// One name for it in every crate.
 pub fn bits_of(x: f64) -> u64
     ensures { result ≡ to_bits binary64 x }
 {
@@ -24,7 +22,6 @@ pub fn bits_of(x: f64) -> u64
 }
 
 // The two words of x at `at`.
-// The place is asked for in each contract: it is a bound of a slice, and no type's.
 pub fn put_float(words: &mut [u32], at: usize, x: f64)
     requires { at + 1 < length words.old }
     ensures { words.new ≡ sets words.old at (float_words x) }

@@ -52,7 +52,6 @@ pub fn greatest_half(words: &[u32], at: usize, n: usize) -> u32
     ensures { (k : ℕ) → k < n → get_or words.now (at + 2 * k) 0 ≤ result }
 {
     let mut greatest = 0;
-    // By index: every second word.
     for k in 0..n {
         greatest = greatest.max(words[at + 2 * k]);
     }

@@ -19,7 +19,6 @@ use crate::record::{Candidate, FIRST_CELL, distance_count};
 pub struct Record {
     pub length: usize,
     pub candidates: usize,
-    // A flag beside the count: a row that does not score has candidates too.
     pub scores: bool,
     pub minute: u32,
 }

@@ -10,7 +10,6 @@ use crate::link::{Link, Relation, link_ahead, link_behind, node_of, relation_at}
 // The nodes from one to another.
 #[derive(Clone, Copy)]
 pub struct Nodes {
-    // A struct and no range, so that definitions cite its two fields.
     pub first: usize,
     pub last: usize,
 }

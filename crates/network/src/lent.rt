@@ -44,7 +44,6 @@ impl<'a> Model for Windows<'a> {
 
 #[derive(Drop)]
 pub struct Network<'a> {
-    // That lists fit (`NetworkFits`, `WindowsFit`) is asked by contracts: one is made before it is checked.
     pub lengths: &'a [f64],
     pub headings: &'a [f64],
     pub flags: &'a [u32],

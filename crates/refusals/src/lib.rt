@@ -26,7 +26,6 @@ pub enum Refusal {
 }
 
 impl Refusal {
-    // A method and no From: a call of it says what it gives.
     pub fn number(self) -> u32
         ensures { result ≡ refusal_number self }
     {

@@ -56,7 +56,6 @@ fn replay_long(input: &mut Input<'_>, session: &mut Session, n: usize) -> io::Re
 
 // Every line up to the journal, the input's end or a word that cannot be read. Without a journal, one that has no words is answered.
 fn drive(input: &mut Input<'_>, session: &mut Session) -> io::Result<()> {
-    // So many turns at most: a loop has to end, and how many lines come is not known.
     for _ in 0..u64::MAX {
         let Some(keyword) = input.next_line()? else {
             tell(input, session, &[]);

@@ -26,7 +26,6 @@ pub fn row_same(track: &Track<'_>, settings: Settings, own: &[u32], previous: &[
     let n = distance_count(count, before);
     let mut distances = [0.0; 256];
     copy_floats(own, FIRST_CELL + 7 * count + 1, 2, n, &mut distances);
-    // Two arrays, as `score_row` fills them.
     let mut parents = [NO_PARENT; 16];
     let mut scores = [0.0; 16];
     score_row(

@@ -14,7 +14,6 @@ use network::compile::CompiledGraph;
 use refusals::Refusal;
 
 // How many states there are from s back to the start, both counted; at most `most`.
-// The predecessors alone: `Search` and its invariant say nothing of their bound.
 fn steps_back(preds: &[u16; 4096], start: usize, most: usize, s: usize) -> usize
     requires s_bound { s < 4096 }
     requires preds_bound { (k : ℕ) → get_or preds.now k 0 < 4096 }
@@ -38,7 +37,6 @@ fn write_back(preds: &[u16; 4096], s: usize, n: usize, states: &mut [u32])
     ensures { states.new ≡ reverse (states_back preds.now n s) ++ drop n states.old }
 {
     let mut at = s as u16;
-    // By index: what is stored follows the predecessors.
     for i in (0..n).rev() {
         states[i] = at as u32;
         at = preds[at as usize];

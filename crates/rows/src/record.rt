@@ -49,7 +49,6 @@ pub fn candidates_at(words: &[u32], count: usize) -> Candidates
         Entries16 result × (result.minute ≡ r.minute) × (candidates_in result ≡ (fix_of r).candidates) }
 {
     let mut list = no_candidates();
-    // By index: a candidate is read from the words.
     for i in 0..count {
         list[i] = candidate_of(words, i);
     }

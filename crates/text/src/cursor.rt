@@ -10,12 +10,10 @@ use crate::word::{Word, next_word};
 
 // Where reading stands: the place behind the words that were read, and how many they are, up to 4,294,967,295. Where the last of them could not be
 // read, nothing more is read.
-// The text is handed beside it; `Words` of `answers` holds both.
 #[derive(Clone, Copy)]
 pub struct Cursor {
     pub at: usize,
     pub words: u32,
-    // A flag and no Result: the number of an unreadable word is told, and a run of reads is asked once, at its end.
     pub bad: bool,
 }
 
@@ -23,7 +21,6 @@ pub struct Cursor {
 #[derive(Clone, Copy)]
 pub struct Taken<T> {
     pub cursor: Cursor,
-    // Where the cursor is bad it stands for nothing.
     pub value: T,
 }
 
@@ -66,7 +63,6 @@ fn taken_as<T: Copy>(c: Cursor, w: Word, read: Option<T>, none: T) -> Taken<T>
 }
 
 // The next word as a decimal number.
-// One function for each kind of word: one that is lent how to read it is no shorter.
 #[tactic(auto, unfolding(crate::specs::inner::Cursor::take_number))]
 pub fn take_number(text: &[u8], c: Cursor) -> Taken<u32>
     ensures { result ≡ take_number text.now c }
@@ -152,7 +148,6 @@ pub fn take_keyword(text: &[u8], c: Cursor) -> Taken<Keyword>
 }
 
 // The next word as the name of a slice, as with keywords.
-// As `take_keyword`: one that is lent how to read the word is no shorter.
 #[tactic(auto, unfolding(crate::specs::inner::Cursor::take_slice))]
 pub fn take_slice(text: &[u8], c: Cursor) -> Taken<Slice>
     ensures { result ≡ take_slice text.now c }

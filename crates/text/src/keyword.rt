@@ -26,7 +26,6 @@ pub enum Keyword {
     Minute,
     Load,
     Replay,
-    // any other word: the caller judges it
     Unknown,
 }
 
@@ -51,7 +50,6 @@ pub enum Slice {
     Distances,
     Answer,
     Decisions,
-    // any other word: the caller judges it
     Unknown,
 }
 

@@ -25,7 +25,6 @@ fn entered<T: Copy>(taken: Taken<T>, i: usize, xs: &mut [T]) -> Cursor
 }
 
 // The next word as a number, into entry i.
-// Numbers and floats apart: each is read by a function of its own.
 #[tactic(auto, unfolding(crate::specs::inner::Lists::number_into))]
 fn number_into(text: &[u8], c: Cursor, i: usize, numbers: &mut [u32]) -> Cursor
     ensures value { result ≡ (number_into text.now i c numbers.old).0 }

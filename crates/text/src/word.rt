@@ -29,7 +29,6 @@ fn skip_gap(text: &[u8], at: usize) -> usize
     ensures { result ≡ at + gap false (drop at text.now) }
 {
     let mut comment = false;
-    // By place, which is the answer.
     for i in at..text.len() {
         let b = text[i];
         if !comment && !breaks(b) {

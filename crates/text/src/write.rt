@@ -39,7 +39,6 @@ fn fill_digits(out: &mut [u8], base: u64, n: u64)
     ensures { out.new ≡ last_digits base (length out.old) n }
 {
     let mut rest = n;
-    // By index, from the last digit on.
     for k in (0..out.len()).rev() {
         out[k] = glyph(rest % base);
         rest /= base;
@@ -80,7 +79,6 @@ pub fn put_float(out: &mut [u8], at: usize, x: f64) -> usize
     ensures value { result ≡ place_behind out.old at (hex_float x) }
     ensures out_after { out.new ≡ bytes_stored out.old at (hex_float x) }
 {
-    // As `put_hex_word`, with 16 digits: a shared function is no shorter.
     let mut digits = [0u8; 16];
     fill_digits(&mut digits, 16, bits_of(x));
     put_bytes(out, at, &digits)
