@@ -78,8 +78,8 @@ impl Cases<'_> {
             Keyword::Journal => self.new_journal(words),
             Keyword::Kept => self.tell_kept(),
             Keyword::Segments => {
-                let journal = first(self.journal, self.words);
-                self.list.build(session, journal);
+                let journal: &[u32] = &self.journal[..];
+                self.list.build(session, first(journal, self.words));
             }
             Keyword::Collapse => self.list.collapse(words, session),
             _ => self.answer_on_journal(keyword, words),

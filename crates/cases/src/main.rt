@@ -17,10 +17,19 @@ const TEXT_BYTES: usize = 2097152;
 
 const JOURNAL_WORDS: usize = 700000;
 
+// An array in a function of its own: there alone its entries are looked at by the check.
+fn new_text() -> [u8; TEXT_BYTES] {
+    [0; TEXT_BYTES]
+}
+
+fn new_journal() -> [u32; JOURNAL_WORDS] {
+    [0; JOURNAL_WORDS]
+}
+
 fn main(rt: HostRuntime) -> io::Result<()> {
-    let mut text = [0; TEXT_BYTES];
+    let mut text = new_text();
     let mut input = Input::new(&mut text, rt.stdin());
-    let mut journal = [0; JOURNAL_WORDS];
+    let mut journal = new_journal();
     let mut cases = Cases {
         session: Session::new(rt.stdout()),
         journal: &mut journal,

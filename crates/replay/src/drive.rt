@@ -41,16 +41,25 @@ fn replay(input: &mut Input<'_>, session: &mut Session, journal: &mut [u32]) -> 
     Ok(())
 }
 
+// An array in a function of its own: there alone its entries are looked at by the check.
+fn new_short() -> [u32; SHORT] {
+    [0; SHORT]
+}
+
+fn new_long() -> [u32; LONG] {
+    [0; LONG]
+}
+
 // Each array stands in the frame of a function of its own, so that it takes stack only where it is needed.
 #[inline(never)]
 fn replay_short(input: &mut Input<'_>, session: &mut Session, n: usize) -> io::Result<()> {
-    let mut journal = [0; SHORT];
+    let mut journal = new_short();
     replay(input, session, &mut journal[..n.min(SHORT)])
 }
 
 #[inline(never)]
 fn replay_long(input: &mut Input<'_>, session: &mut Session, n: usize) -> io::Result<()> {
-    let mut journal = [0; LONG];
+    let mut journal = new_long();
     replay(input, session, &mut journal[..n.min(LONG)])
 }
 
