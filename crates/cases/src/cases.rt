@@ -7,7 +7,6 @@ use answers::setup::poke;
 use answers::words::Words;
 use std::io;
 use text::keyword::Keyword;
-use text::list::first;
 
 // The most words that a journal has, so that 10,000 rows of 4 candidates fit, which take 65 words each.
 const MOST_WORDS: u32 = 700000;
@@ -63,6 +62,13 @@ impl Cases<'_> {
         }
     }
 
+    fn build(&mut self) {
+        let session = &mut self.session;
+        let n = self.words.min(self.journal.len());
+        let journal = &mut self.journal[..n];
+        self.list.build(session, journal);
+    }
+
     // A line that is in the text as a whole.
     fn answer_whole(&mut self, keyword: Keyword, words: &mut Words<'_>) {
         let session = &mut self.session;
@@ -77,10 +83,7 @@ impl Cases<'_> {
             Keyword::Triple => session.triple(words),
             Keyword::Journal => self.new_journal(words),
             Keyword::Kept => self.tell_kept(),
-            Keyword::Segments => {
-                let journal: &[u32] = &self.journal[..];
-                self.list.build(session, first(journal, self.words));
-            }
+            Keyword::Segments => self.build(),
             Keyword::Collapse => self.list.collapse(words, session),
             _ => self.answer_on_journal(keyword, words),
         }
