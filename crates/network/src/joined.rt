@@ -1,6 +1,6 @@
 // Whether an external edge leads from some nodes to others, by the relations themselves: nothing is compiled for it.
 ghost use Rattle.std.specs.Prelude.{◌≡◌, ◌≤◌};
-ghost use Rattle.network.specs.Graph.{graph};
+ghost use Rattle.network.specs.Graph.{relations_at, links_of};
 ghost use Rattle.network.specs.inner.Sound.{NetworkFits};
 ghost use Rattle.network.specs.inner.Nodes.{within, side_nodes, element_nodes, link_leads, relation_leads, joined};
 
@@ -57,12 +57,17 @@ fn relation_leads(elements: usize, sources: Nodes, targets: Nodes, r: Relation) 
         || link_leads(sources, targets, link_behind(elements, r))
 }
 
-// Whether a relation's link leads at a minute from one of the sources to one of the targets.
-pub fn are_joined(net: &Network<'_>, minute: u32, sources: Nodes, targets: Nodes) -> bool
+// Whether a relation's link leads at a minute from one of the sources to one of the targets, among so many elements.
+pub fn are_joined(
+    net: &Network<'_>,
+    elements: usize,
+    minute: u32,
+    sources: Nodes,
+    targets: Nodes,
+) -> bool
     requires { NetworkFits net.now }
-    ensures { result ≡ joined (graph net.now minute).links sources targets }
+    ensures { result ≡ joined (links_of elements (relations_at net.now.windows minute net.now.relations)) sources targets }
 {
-    let elements = net.lengths.len();
     (0..net.relations.from.len()).any(|k| relation_leads(
         elements,
         sources,

@@ -13,6 +13,6 @@ unfolding relations_at
 returns c =
     let net = c.args.net.now in
     let n = length net.relations.from in
-    let leads = λ (k : ℕ). relation_leads (length net.lengths) c.args.sources c.args.targets (relation_at (relations_at net.windows c.args.minute net.relations) k) in
+    let leads = λ (k : ℕ). relation_leads c.args.elements c.args.sources c.args.targets (relation_at (relations_at net.windows c.args.minute net.relations) k) in
     any_from_yields_List leads _ _ _ c.any.ensures.ran (YieldsList-from_range 0 n n (search rules) (omega arith)) (λ k b q called. (search rules, search rules))
     ∙ any-numbers leads n ∙ joined-relations _ _ _ _
