@@ -55,7 +55,9 @@ pub fn strike(journal: &mut [u32], n: u32) -> Result<(), Refusal>
 pub fn predecessor(journal: &[u32]) -> Result<Option<PrecedingRow>, Refusal>
     ensures { result ≡ preceding journal.now }
 {
-    let found = read_journal(journal)?;
+    let Ok(found) = read_journal(journal) else {
+        return Err(Refusal::Journal);
+    };
     match found.latest {
         None => Ok(None),
         Some(latest) => Ok(Some(PrecedingRow {

@@ -94,7 +94,8 @@ fn distances_read(words: &[u32], at: usize, n: usize) -> bool
     requires { at + 2 * n ≤ length words.now }
     ensures { result ≡ every_below n (λ k. well_read float_words read_distance distance_ok (drop (at + 2 * k) words.now)) }
 {
-    greatest_half(words, at, n) < 0x4170_0000 || each_distance_reads(words, at, n)
+    let small = greatest_half(words, at, n) < 0x4170_0000;
+    small || each_distance_reads(words, at, n)
 }
 
 // Whether one of the scores of c candidates is finite.
