@@ -7,9 +7,9 @@ ghost use Rattle.routing.specs.Search.{searched};
 ghost use Rattle.routing.specs.Route.{steps_back, states_back, route_fitted, states_of_end, states_stored};
 ghost use Rattle.routing.specs.inner.Goals.{end_answer};
 
-use crate::blocks::NO_LEADER;
+use crate::blocks::no_leaders;
 use crate::route::ListedRoute;
-use crate::search::Search;
+use crate::search::{Search, no_costs};
 use network::compile::CompiledGraph;
 use refusals::Refusal;
 
@@ -81,10 +81,10 @@ pub fn states_between(
         states.new ≡ states_stored result (states_of_end (2 * start) (4 * element_count g) (searched g start goal)) states.old }
 {
     let mut search = Search {
-        costs: [0.0; 4096],
+        costs: *no_costs(),
         preds: [0; 4096],
-        marks: [true; 4096],
-        leaders: [NO_LEADER; 272],
+        marks: [false; 4096],
+        leaders: *no_leaders(),
     };
     search.begin(start);
     match search.find(graph, goal) {

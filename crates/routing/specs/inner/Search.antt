@@ -1,8 +1,7 @@
 -- What bounds the numbers of a search.
-use Rattle.std.specs.Prelude.{ℕ, zero, suc, ◌+◌, ◌<◌, ◌≤◌, ◌≡◌, Bool, true, false, cond, List, Option, Some, None, length, get_or, replicate, Float}
+use Rattle.std.specs.Prelude.{ℕ, zero, suc, ◌+◌, ◌<◌, ◌≤◌, ◌≡◌, Bool, false, cond, List, Option, Some, None, length, get_or}
 use Rattle.std.specs.Float.{nan, inf}
-use Rattle.binary64.specs.Values.{pzero}
-use Rattle.routing.specs.Search.{Tables, Search, search_of, no_preds}
+use Rattle.routing.specs.Search.{Tables, Search, search_of, no_costs, no_preds, no_marks}
 
 -- a pick is a state below n
 abbrev pub Within : ℕ → Option ℕ → Type 0
@@ -24,12 +23,6 @@ pub record ReachedBelow (n : ℕ) (q : Search) : Type 0 where
 abbrev pub with_tables : Tables → Search → Search
 with_tables t q = record { tables = t; marks = q.marks }
 
--- every state is settled at cost 0, so that none can be picked
-unfoldable pub blank_costs : List Float
-blank_costs = replicate 4096 pzero
-
-unfoldable pub blank_marks : List Bool
-blank_marks = replicate 4096 true
-
+-- no state is reached, and none settled
 abbrev pub blank : Search
-blank = search_of blank_costs no_preds blank_marks
+blank = search_of no_costs no_preds no_marks

@@ -7,10 +7,8 @@ use lib.Seq.{length-take-le}
 use lib.Ieee.{Float, of_bits}
 use Rattle.network.specs.inner.Compiled.{graph_in}
 use Rattle.routing.specs.Route.{cost_of_end}
-use Rattle.routing.specs.Search.{no_preds}
-use Rattle.routing.specs.inner.Search.{blank_costs, blank_marks}
-use Rattle.routing.specs.inner.Blocks.{no_leaders}
-use Rattle.routing.proofs.Leaders.{led-blank}
+use Rattle.routing.specs.Search.{no_preds, no_marks}
+use Rattle.routing.proofs.Leaders.{led-none}
 use Rattle.routing.proofs.Noting.{filled-front, filled-rest, costs-same}
 use Rattle.routing.proofs.Reached.{reached-begun}
 use Rattle.routing.proofs.Routes.{is-searched, node-route}
@@ -21,12 +19,12 @@ filled : (before : List Float) {n : ℕ} {x : Float} {after : List Float} → n 
 filled before {n} {x} room h = h (λ y e. e) ∙ ap (λ (k : ℕ). replicate k x) (length-take-le n before room)
 
 pub invariant_of-search : goal.invariant_of-search
-unfolding blank_costs blank_marks no_leaders of_bits
-invariant_of-search c = led-blank
+unfolding no_marks
+invariant_of-search c = rw (c.no_costs.ensures, c.no_leaders.ensures) led-none
 
 pub begin-requires-clause-blank : goal.begin-requires-clause-blank
-unfolding blank_costs no_preds blank_marks of_bits
-begin-requires-clause-blank c = refl
+unfolding no_preds no_marks
+begin-requires-clause-blank c = rw c.no_costs.ensures refl
 
 pub serve_goals-requires-clause-unfound : goal.serve_goals-requires-clause-unfound
 unfolding of_bits

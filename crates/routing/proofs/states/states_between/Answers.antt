@@ -2,23 +2,20 @@
 use mathlib.Core.Path.{refl, ap}
 use native.Mathlib.Omega.{arith}
 use Rattle.network.specs.inner.Compiled.{Compiled, graph_in}
-use lib.Ieee.{of_bits}
-use Rattle.routing.specs.Search.{Search, no_preds}
+use Rattle.routing.specs.Search.{Search, no_preds, no_marks}
 use Rattle.routing.specs.Route.{states_stored}
-use Rattle.routing.specs.inner.Search.{blank_costs, blank_marks}
-use Rattle.routing.specs.inner.Blocks.{no_leaders}
-use Rattle.routing.proofs.Leaders.{led-blank}
+use Rattle.routing.proofs.Leaders.{led-none}
 use Rattle.routing.proofs.Reached.{reached-begun}
 use Rattle.routing.proofs.Routes.{is-searched, found-listing, found-stored, found_below, found-states-below, none-listing}
 use Rattle.routing.proofs.states.states_between.Goals as goal
 
 pub invariant_of-search : goal.invariant_of-search
-unfolding blank_costs blank_marks no_leaders of_bits
-invariant_of-search c = led-blank
+unfolding no_marks
+invariant_of-search c = rw (c.no_costs.ensures, c.no_leaders.ensures) led-none
 
 pub begin-requires-clause-blank : goal.begin-requires-clause-blank
-unfolding blank_costs no_preds blank_marks of_bits
-begin-requires-clause-blank c = refl
+unfolding no_preds no_marks
+begin-requires-clause-blank c = rw c.no_costs.ensures refl
 
 pub find-requires-clause-reached : goal.find-requires-clause-reached
 find-requires-clause-reached c = rw c.begin.ensures (reached-begun (graph_in c.args.graph.now) c.requires.sound_graph _ c.requires.start_bound)

@@ -11,12 +11,12 @@ overflow_mul-opposite_of c = rw c.opposite_of.ensures (omega (arith, opposite-la
 pub lower-requires : goal.lower-requires
 lower-requires c = (omega arith, rw c.opposite_of.ensures (omega (arith, opposite-lands _ _ c.requires.s_bound, c.requires.sound_graph.few)))
 
-pub returns-then-s-eq0 : goal.returns-then-s-eq0
-returns-then-s-eq0 c =
+pub returns-then-even : goal.returns-then-even
+returns-then-even c =
     rw (c.relax_external.ensures, c.lower.ensures, c.mark_state.ensures.marked, c.first_link.ensures, ← c.self.view_is, ← c.graph.view_is)
-    (settled-even _ _ _ c.opposite_of.ensures refl c.if-s-eq0.true refl)
+    (settled-even _ _ _ c.opposite_of.ensures refl c.if-even.true refl)
 
-pub returns-else-s-eq0 : goal.returns-else-s-eq0
-returns-else-s-eq0 c =
+pub returns-else-even : goal.returns-else-even
+returns-else-even c =
     rw (c.lower.ensures, c.mark_state.ensures.marked, ← c.self.view_is, ← c.graph.view_is)
-    (settled-odd _ _ _ c.opposite_of.ensures refl c.if-s-eq0.false)
+    (settled-odd _ _ _ c.opposite_of.ensures refl c.if-even.false)
