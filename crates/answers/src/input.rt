@@ -7,16 +7,21 @@ use text::keyword::Keyword;
 use text::list::first;
 use text::window::keep_rest;
 
-// The text, where reading stands in it, how many of its bytes are filled, how many of them are whole words, whether the input has ended, and what more
-// of it is read from.
+// How many bytes of the text are filled, how many of them are whole words, whether the input has ended, and what more of it is read from.
+#[derive(Clone, Copy)]
+pub struct Input {
+    pub filled: usize,
+    pub whole: usize,
+    pub ended: bool,
+    pub stdin: Stdin,
+}
+
+// The text, where reading stands in it, and how much of the input it holds.
 #[derive(Drop)]
-pub struct Input<'a> {
+pub struct Reader<'a> {
     text: &'a mut [u8],
     pub cursor: Cursor,
-    filled: usize,
-    whole: usize,
-    ended: bool,
-    stdin: Stdin,
+    input: Input,
 }
 
 // How many bytes there are up to the last blank: what follows it may be a part of a word.
@@ -40,26 +45,29 @@ fn read_behind(text: &mut [u8], filled: usize, stdin: &mut Stdin) -> io::Result<
     Ok(end)
 }
 
-impl<'a> Input<'a> {
-    pub fn new(text: &'a mut [u8], stdin: Stdin) -> Input<'a> {
-        Input {
+impl<'a> Reader<'a> {
+    pub fn new(text: &'a mut [u8], stdin: Stdin) -> Reader<'a> {
+        Reader {
             text,
             cursor: Cursor {
                 at: 0,
                 words: 0,
                 bad: false,
             },
-            filled: 0,
-            whole: 0,
-            ended: false,
-            stdin,
+            input: Input {
+                filled: 0,
+                whole: 0,
+                ended: false,
+                stdin,
+            },
         }
     }
 
     // Whether so much room as a line may take is left, or all that there is.
     fn is_enough(&self) -> bool {
         let c = self.cursor;
-        self.ended || c.at <= self.filled && self.text.len() / 2 <= self.filled - c.at
+        self.input.ended
+            || c.at <= self.input.filled && self.text.len() / 2 <= self.input.filled - c.at
     }
 
     // Where less than half of the text is left, that moves to the front and more is read behind it.
@@ -67,12 +75,12 @@ impl<'a> Input<'a> {
         if self.is_enough() {
             return Ok(());
         }
-        let left = keep_rest(self.text, self.cursor.at, self.filled);
-        self.filled = read_behind(self.text, left, &mut self.stdin)?;
+        let left = keep_rest(self.text, self.cursor.at, self.input.filled);
+        self.input.filled = read_behind(self.text, left, &mut self.input.stdin)?;
         self.cursor.at = 0;
-        self.ended = self.filled < self.text.len();
-        self.whole = if self.ended {
-            self.filled
+        self.input.ended = self.input.filled < self.text.len();
+        self.input.whole = if self.input.ended {
+            self.input.filled
         } else {
             whole_words(self.text)
         };
@@ -82,7 +90,7 @@ impl<'a> Input<'a> {
     // The whole words that were read of the text so far.
     pub fn words(&self) -> Words<'_> {
         Words {
-            text: first(self.text, self.whole),
+            text: first(self.text, self.input.whole),
             cursor: self.cursor,
         }
     }
@@ -91,7 +99,7 @@ impl<'a> Input<'a> {
     // where the input has ended, or where a word could not be read: that is an error.
     pub fn next_line(&mut self) -> io::Result<Option<Keyword>> {
         self.refill()?;
-        let ended = self.ended;
+        let ended = self.input.ended;
         let words = self.words();
         let taken = take_keyword(words.text, words.cursor);
         match taken.value {

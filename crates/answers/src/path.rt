@@ -23,6 +23,8 @@ fn print_path(out: &mut Output, path: BestPath, rows: &[u32], candidates: &[u32]
 }
 
 impl Session {
+    // Never inlined: other lines do not need so much stack.
+    #[inline(never)]
     pub fn close(&mut self, journal: &[u32]) {
         let mut rows = [FILL; STATES];
         let mut candidates = [FILL; STATES];

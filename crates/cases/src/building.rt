@@ -16,7 +16,8 @@ fn is_filled(segments: &[Segment]) -> bool {
 }
 
 impl List {
-    // The list is built of the journal's best path.
+    // The list is built of the journal's best path. Never inlined: other lines do not need so much stack.
+    #[inline(never)]
     pub fn build(&mut self, session: &mut Session, journal: &[u32]) {
         let mut built = [FILL_SEGMENT; SEGMENTS];
         let room = session.cuts.cut(Slice::Answer, SEGMENTS);

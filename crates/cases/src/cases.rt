@@ -1,7 +1,7 @@
 // The lines of the case language: which function answers each.
 use crate::list::List;
 use answers::drive::tell_words;
-use answers::input::Input;
+use answers::input::Reader;
 use answers::session::Session;
 use answers::setup::poke;
 use answers::words::Words;
@@ -90,7 +90,7 @@ impl Cases<'_> {
     }
 
     // The journal is just the words of a `load` from now on.
-    fn load(&mut self, input: &mut Input<'_>) -> io::Result<()> {
+    fn load(&mut self, input: &mut Reader<'_>) -> io::Result<()> {
         let n = input.load_count(MOST_WORDS).min(self.journal.len());
         input.load(&mut self.journal[..n])?;
         self.words = n;
@@ -98,7 +98,7 @@ impl Cases<'_> {
     }
 
     // A line, behind its first word. A `load` reads more of the input as it goes.
-    fn answer(&mut self, keyword: Keyword, input: &mut Input<'_>) -> io::Result<()> {
+    fn answer(&mut self, keyword: Keyword, input: &mut Reader<'_>) -> io::Result<()> {
         match keyword {
             Keyword::Load => self.load(input),
             _ => {
@@ -111,7 +111,7 @@ impl Cases<'_> {
     }
 
     // Every line up to the input's end, a word that cannot be read, or a read or write that fails.
-    fn answer_all(&mut self, input: &mut Input<'_>) -> io::Result<()> {
+    fn answer_all(&mut self, input: &mut Reader<'_>) -> io::Result<()> {
         for _ in 0..u64::MAX {
             let Some(keyword) = input.next_line()? else {
                 break;
@@ -126,7 +126,7 @@ impl Cases<'_> {
     }
 
     // What was answered before a failed read is written out.
-    pub fn run(&mut self, input: &mut Input<'_>) -> io::Result<()> {
+    pub fn run(&mut self, input: &mut Reader<'_>) -> io::Result<()> {
         let read = self.answer_all(input);
         self.session.out.finish()?;
         read

@@ -105,7 +105,8 @@ impl List {
         }
     }
 
-    // From behind the word `collapse`: the list that is held, or one of the text.
+    // From behind the word `collapse`: the list that is held, or one of the text. Never inlined: other lines do not need so much stack.
+    #[inline(never)]
     pub fn collapse(&mut self, words: &mut Words<'_>, session: &mut Session) {
         let room = session.cuts.cut(Slice::Decisions, DECISIONS);
         session.cuts.release(Slice::Decisions, Slice::Decisions);

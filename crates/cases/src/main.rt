@@ -8,7 +8,7 @@ mod list;
 
 use crate::cases::Cases;
 use crate::list::List;
-use answers::input::Input;
+use answers::input::Reader;
 use answers::session::Session;
 use std::io;
 
@@ -28,7 +28,7 @@ fn new_journal() -> [u32; JOURNAL_WORDS] {
 
 fn main(rt: HostRuntime) -> io::Result<()> {
     let mut text = new_text();
-    let mut input = Input::new(&mut text, rt.stdin());
+    let mut input = Reader::new(&mut text, rt.stdin());
     let mut journal = new_journal();
     let mut cases = Cases {
         session: Session::new(rt.stdout()),

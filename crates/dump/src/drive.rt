@@ -1,6 +1,6 @@
 // The lines of a drive: its network with the windows, its settings, and its fixes with their minutes.
 use answers::drive::list_words;
-use answers::input::Input;
+use answers::input::Reader;
 use answers::session::Session;
 use answers::words::Words;
 use journal::call::open;
@@ -27,7 +27,7 @@ fn perform(keyword: Keyword, words: &mut Words<'_>, session: &mut Session, journ
 }
 
 // Every line up to the input's end or a word that cannot be read, then the used words.
-fn drive(input: &mut Input<'_>, session: &mut Session, journal: &mut [u32]) -> io::Result<()> {
+fn drive(input: &mut Reader<'_>, session: &mut Session, journal: &mut [u32]) -> io::Result<()> {
     for _ in 0..u64::MAX {
         let Some(keyword) = input.next_line()? else {
             break;
@@ -42,7 +42,7 @@ fn drive(input: &mut Input<'_>, session: &mut Session, journal: &mut [u32]) -> i
 }
 
 // Where reading fails, only what was told before it.
-pub fn run(input: &mut Input<'_>, session: &mut Session, journal: &mut [u32]) -> io::Result<()> {
+pub fn run(input: &mut Reader<'_>, session: &mut Session, journal: &mut [u32]) -> io::Result<()> {
     let _ = open(journal);
     let read = drive(input, session, journal);
     session.out.finish()?;

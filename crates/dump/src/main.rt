@@ -3,7 +3,7 @@
 
 mod drive;
 
-use answers::input::Input;
+use answers::input::Reader;
 use answers::session::Session;
 use std::io;
 
@@ -25,7 +25,7 @@ fn new_journal() -> [u32; JOURNAL_WORDS] {
 fn main(rt: HostRuntime) -> io::Result<()> {
     let mut text = new_text();
     let mut journal = new_journal();
-    let mut input = Input::new(&mut text, rt.stdin());
+    let mut input = Reader::new(&mut text, rt.stdin());
     let mut session = Session::new(rt.stdout());
     drive::run(&mut input, &mut session, &mut journal)
 }

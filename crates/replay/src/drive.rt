@@ -1,5 +1,5 @@
 // The lines of the input: a network with its windows, settings, and at the end a journal.
-use answers::input::Input;
+use answers::input::Reader;
 use answers::session::Session;
 use answers::words::Words;
 use std::io;
@@ -24,7 +24,7 @@ fn set_up(keyword: Keyword, words: &mut Words<'_>, session: &mut Session) {
 }
 
 // The answer, unless a word could not be read.
-fn tell(input: &Input<'_>, session: &mut Session, journal: &[u32]) {
+fn tell(input: &Reader<'_>, session: &mut Session, journal: &[u32]) {
     let c = input.cursor;
     if !c.bad {
         session.tell_replay(journal);
@@ -32,7 +32,7 @@ fn tell(input: &Input<'_>, session: &mut Session, journal: &[u32]) {
 }
 
 // The journal is read, and answered. It ends the input: a word behind it counts as unreadable.
-fn replay(input: &mut Input<'_>, session: &mut Session, journal: &mut [u32]) -> io::Result<()> {
+fn replay(input: &mut Reader<'_>, session: &mut Session, journal: &mut [u32]) -> io::Result<()> {
     input.load(journal)?;
     if input.next_line()?.is_some() {
         input.cursor = refuse(input.cursor);
@@ -52,19 +52,19 @@ fn new_long() -> [u32; LONG] {
 
 // Each array stands in the frame of a function of its own, so that it takes stack only where it is needed.
 #[inline(never)]
-fn replay_short(input: &mut Input<'_>, session: &mut Session, n: usize) -> io::Result<()> {
+fn replay_short(input: &mut Reader<'_>, session: &mut Session, n: usize) -> io::Result<()> {
     let mut journal = new_short();
     replay(input, session, &mut journal[..n.min(SHORT)])
 }
 
 #[inline(never)]
-fn replay_long(input: &mut Input<'_>, session: &mut Session, n: usize) -> io::Result<()> {
+fn replay_long(input: &mut Reader<'_>, session: &mut Session, n: usize) -> io::Result<()> {
     let mut journal = new_long();
     replay(input, session, &mut journal[..n.min(LONG)])
 }
 
 // Every line up to the journal, the input's end or a word that cannot be read. Without a journal, one that has no words is answered.
-fn drive(input: &mut Input<'_>, session: &mut Session) -> io::Result<()> {
+fn drive(input: &mut Reader<'_>, session: &mut Session) -> io::Result<()> {
     for _ in 0..u64::MAX {
         let Some(keyword) = input.next_line()? else {
             tell(input, session, &[]);
@@ -88,7 +88,7 @@ fn drive(input: &mut Input<'_>, session: &mut Session) -> io::Result<()> {
     Ok(())
 }
 
-pub fn run(input: &mut Input<'_>, session: &mut Session) -> io::Result<()> {
+pub fn run(input: &mut Reader<'_>, session: &mut Session) -> io::Result<()> {
     drive(input, session)?;
     session.out.error(input.cursor);
     session.out.finish()

@@ -3,7 +3,7 @@
 
 mod drive;
 
-use answers::input::Input;
+use answers::input::Reader;
 use answers::session::Session;
 use std::io;
 
@@ -17,7 +17,7 @@ fn new_text() -> [u8; TEXT_BYTES] {
 
 fn main(rt: HostRuntime) -> io::Result<()> {
     let mut text = new_text();
-    let mut input = Input::new(&mut text, rt.stdin());
+    let mut input = Reader::new(&mut text, rt.stdin());
     let mut session = Session::new(rt.stdout());
     drive::run(&mut input, &mut session)
 }

@@ -170,16 +170,18 @@ pub fn take_slice(text: &[u8], c: Cursor) -> Taken<Slice>
 pub fn take_if(text: &[u8], c: Cursor, word: &[u8]) -> Taken<bool>
     ensures { result ≡ take_if text.now word.now c }
 {
-    let w = next_word(text, c.at);
-    if c.bad || word_bytes(text, w) != word {
-        return Taken {
-            cursor: c,
-            value: false,
-        };
+    if !c.bad {
+        let w = next_word(text, c.at);
+        if word_bytes(text, w) == word {
+            return Taken {
+                cursor: pass(c, w, false),
+                value: true,
+            };
+        }
     }
     Taken {
-        cursor: pass(c, w, false),
-        value: true,
+        cursor: c,
+        value: false,
     }
 }
 

@@ -16,12 +16,16 @@ fn breaks(b: u8) -> bool
     matches!(b, b'\t' | b'\n' | b'\r' | b' ' | b'#')
 }
 
-// Whether a comment goes on after a byte.
+// Whether a comment goes on after a byte: by branches, so that no byte waits for the one before it.
 #[tactic(auto, unfolding(crate::specs::inner::Words::commented))]
 fn commented(comment: bool, b: u8) -> bool
     ensures { result ≡ Words·commented comment b }
 {
-    (comment || b == b'#') && b != b'\n'
+    match b {
+        b'\n' => false,
+        b'#' => true,
+        _ => comment,
+    }
 }
 
 // Past separators and comments.
