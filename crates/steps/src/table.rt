@@ -16,7 +16,7 @@ use transition::step::Settings;
 use transition::track::Track;
 
 // The predecessor's number and the row's, how many candidates the predecessor has and how many pairs there are, and their steps.
-#[derive(Drop)]
+#[derive(Clone, Copy)]
 pub struct RowSteps {
     pub predecessor_row: u32,
     pub row: u32,
